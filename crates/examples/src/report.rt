@@ -1,0 +1,115 @@
+// A line for each example, and one at the end.
+use libc::STDOUT_FILENO;
+use refusal::Refusal;
+use refusal::Written;
+
+// A call's answer in document 01's numbers: 0 and a count, or a refusal's number and the first value
+// that it carries.
+pub(crate) struct Answer {
+    pub(crate) number: u32,
+    pub(crate) value: usize,
+}
+
+fn first_value(r: Refusal) -> usize {
+    match r {
+        Refusal::DataTooLong => 0,
+        Refusal::BufferTooSmall => 0,
+        Refusal::BufferTooShort => 0,
+        Refusal::InvalidDelimiter(byte) => byte as usize,
+        Refusal::ChecksumMismatch {
+            expected,
+            actual: _,
+        } => expected as usize,
+        Refusal::WrongFrame => 0,
+        Refusal::BadCharacter(place) => place,
+        Refusal::BadState => 0,
+        Refusal::CommError(byte) => byte as usize,
+        Refusal::ResponseCode(code) => code as usize,
+    }
+}
+
+pub(crate) fn answer_of(written: Written) -> Answer {
+    match written {
+        Written::Count(n) => Answer {
+            number: 0,
+            value: n,
+        },
+        Written::Refused(r) => Answer {
+            number: r.number(),
+            value: first_value(r),
+        },
+    }
+}
+
+fn hex_digit(n: u8) -> u8 {
+    let low = n % 16;
+    if low < 10 {
+        low + b'0'
+    } else {
+        low - 10 + b'A'
+    }
+}
+
+fn print_byte(b: u8) {
+    io::write_all(STDOUT_FILENO, &[b' ', hex_digit(b / 16), hex_digit(b % 16)]);
+}
+
+fn print_bytes(bytes: &[u8]) {
+    let mut i = 0;
+    while i < bytes.len() {
+        print_byte(bytes[i]);
+        i += 1;
+    }
+}
+
+fn print_answer(answer: Answer) {
+    if answer.number == 0 {
+        io::write_all(STDOUT_FILENO, b"count ");
+    } else {
+        io::write_all(STDOUT_FILENO, b"refused ");
+        io::print_decimal(STDOUT_FILENO, answer.number as u64);
+        io::write_all(STDOUT_FILENO, b", value ");
+    }
+    io::print_decimal(STDOUT_FILENO, answer.value as u64);
+}
+
+fn same_answer(a: Answer, b: Answer) -> bool {
+    a.number == b.number && a.value == b.value
+}
+
+// Prints whether the answer and the buffer after the call are the wanted ones, and what they are.
+pub(crate) fn line(
+    name: &[u8],
+    answer: Answer,
+    wanted: Answer,
+    buffer: &[u8],
+    wanted_buffer: &[u8],
+) -> bool {
+    let right = same_answer(answer, wanted) & check::same(buffer, wanted_buffer);
+    if right {
+        io::write_all(STDOUT_FILENO, b"ok     ");
+    } else {
+        io::write_all(STDOUT_FILENO, b"WRONG  ");
+    }
+    io::write_all(STDOUT_FILENO, name);
+    io::write_all(STDOUT_FILENO, b": ");
+    print_answer(answer);
+    io::write_all(STDOUT_FILENO, b", buffer");
+    print_bytes(buffer);
+    io::write_all(STDOUT_FILENO, b"\n");
+    right
+}
+
+pub(crate) fn close(right: bool) {
+    if right {
+        io::write_all(
+            STDOUT_FILENO,
+            b"every example came out as document 01 says\n",
+        );
+    } else {
+        io::write_all(
+            STDOUT_FILENO,
+            b"SOME EXAMPLE CAME OUT OTHERWISE THAN DOCUMENT 01 SAYS\n",
+        );
+    }
+}

@@ -1,0 +1,88 @@
+-- Bytes put into a buffer: one more byte, one part behind another, the part that was put, and what a call that put them comes to.
+use Prim.Native.Nat.{ℕ, zero, suc, _+_, _≤_, _<_}
+use native.Mathlib.Nat.{add-zero, zero-add}
+use native.Mathlib.Numerals.{add-one}
+use native.Mathlib.Omega.{arith}
+use mathlib.Core.Path.{_≡_, refl, sym, ap, _∙_}
+use mathlib.Core.List.{List, [], _∷_, _++_, append-assoc, append-nil}
+use lib.ListN.{length, take, drop, set, getD, length-append, take-append-drop, length-drop}
+use lib.Seq.{length-take-le, drop-cons, append-snoc, set-at, set-split, take-at, drop-at, drop-drop}
+use Rattle.refusal.specs.Outcome.{done, ends, wrote}
+use Rattle.octets.specs.Put.{put}
+
+pub put-nil : (l : List ℕ) (at : ℕ) → put l at [] ≡ l
+put-nil l at = simp (add-zero, append-nil, take-append-drop)
+
+pub put-front : (l bs : List ℕ) → put l 0 bs ≡ bs ++ drop (length bs) l
+put-front l bs = ap (λ (k : ℕ). bs ++ drop k l) (zero-add (length bs))
+
+module _ (l : List ℕ) (at : ℕ) (bs : List ℕ) where
+  length-head : at ≤ length l → length (take at l ++ bs) ≡ at + length bs
+  length-head h = length-append (take at l) bs ∙ ap (λ (k : ℕ). k + length bs) (length-take-le at l h)
+
+  pub length-put : at + length bs ≤ length l → length (put l at bs) ≡ length l
+  length-put h =
+      let g : at ≤ length l = omega arith in
+      omega (arith, length-append (take at l ++ bs) (drop (at + length bs) l), length-head g, length-drop (at + length bs) l)
+
+  -- one part right behind another
+  pub put-put : (cs : List ℕ) (k : ℕ) → at + length bs ≤ length l → at + length bs ≡ k → put (put l at bs) k cs ≡ put l at (bs ++ cs)
+  put-put cs k h e =
+      let n = at + length bs in
+      let head = take at l ++ bs in
+      let g : length head ≡ n = length-head (omega arith) in
+      let after : n + length cs ≡ at + length (bs ++ cs) = omega (arith, length-append bs cs) in
+      ap (λ (m : ℕ). put (put l at bs) m cs) (sym e)
+      ∙ ap (λ (r : List ℕ). r ++ cs ++ drop (n + length cs) (put l at bs)) (take-at head (drop n l) n g)
+      ∙ ap (λ (r : List ℕ). head ++ cs ++ r)
+      (sym (drop-drop (length cs) n (put l at bs)) ∙ ap (drop (length cs)) (drop-at head (drop n l) n g) ∙ drop-drop (length cs) n l)
+      ∙ ap (λ (r : List ℕ). r ++ drop (n + length cs) l) (append-assoc (take at l) bs cs)
+      ∙ ap (λ (k : ℕ). take at l ++ (bs ++ cs) ++ drop k l) after
+
+  -- the part itself
+  pub part-put : (n : ℕ) → at + length bs ≤ length l → length bs ≡ n → take n (drop at (put l at bs)) ≡ bs
+  part-put n h e =
+      ap (take n) (ap (drop at) (append-assoc (take at l) bs (drop (at + length bs) l)) ∙ drop-at (take at l) (bs ++ drop (at + length bs) l) at (length-take-le at l (omega arith)))
+      ∙ take-at bs (drop (at + length bs) l) n e
+
+pub set-put : (l : List ℕ) (i v : ℕ) → i < length l → set l i v ≡ put l i (v ∷ [])
+set-put l i v h =
+    set-split l i v h
+    ∙ sym (append-snoc (take i l) v (drop (suc i) l))
+    ∙ ap (λ (k : ℕ). take i l ++ (v ∷ []) ++ drop k l) (sym (add-one i))
+
+-- a store right behind a part
+pub put-set : (l : List ℕ) (at : ℕ) (bs : List ℕ) (v k : ℕ) → k < length l → at + length bs ≡ k → set (put l at bs) k v ≡ put l at (bs ++ (v ∷ []))
+put-set l at bs v k h e =
+    let f : at + length bs ≤ length l = omega arith in
+    set-put (put l at bs) k v (omega (arith, length-put l at bs f)) ∙ put-put l at bs (v ∷ []) k f e
+
+-- a turn of a loop that puts one byte: behind `bs`, i of them, the byte makes `cs`
+pub put-turn : (l : List ℕ) (at i : ℕ) (bs : List ℕ) (v : ℕ) {b cs : List ℕ} → b ≡ put l at bs → length bs ≡ i → at + i < length l → cs ≡ bs ++ (v ∷ []) → set b (at + i) v ≡ put l at cs
+put-turn l at i bs v {b} {cs} e n h f =
+    ap (λ (r : List ℕ). set r (at + i) v) e ∙ put-set l at bs v (at + i) h (ap (λ (k : ℕ). at + k) n) ∙ sym (ap (put l at) f)
+
+-- a turn of a loop that puts a part at the place k that it has reached
+pub put-more : (l bs cs : List ℕ) (k : ℕ) {b d ds : List ℕ} → b ≡ put l 0 bs → d ≡ put b k cs → length bs ≡ k → k ≤ length l → ds ≡ bs ++ cs → d ≡ put l 0 ds
+put-more l bs cs k eb ed n h e =
+    ed ∙ ap (λ (x : List ℕ). put x k cs) eb ∙ put-put l 0 bs cs k (omega arith) (omega arith) ∙ sym (ap (put l 0) e)
+
+-- stores in a row, as straight code makes them: at place at + k, at + (k + 1), and so on
+abbrev pub stores : List ℕ → ℕ → ℕ → List ℕ → List ℕ
+stores l at k [] = l
+stores l at k (v ∷ vs) = stores (set l (at + k) v) at (suc k) vs
+
+stores-behind : (vs l : List ℕ) (at : ℕ) (bs : List ℕ) (k : ℕ) → length bs ≡ k → at + k + length vs ≤ length l → stores (put l at bs) at k vs ≡ put l at (bs ++ vs)
+stores-behind [] l at bs k e h = ap (put l at) (sym (append-nil bs))
+stores-behind (v ∷ vs) l at bs k e h =
+    ap (λ (q : List ℕ). stores q at (suc k) vs) (put-set l at bs v (at + k) (omega arith) (ap (λ (m : ℕ). at + m) e))
+    ∙ stores-behind vs l at (bs ++ (v ∷ [])) (suc k) (omega (arith, length-append bs (v ∷ []))) (omega arith)
+    ∙ ap (put l at) (append-snoc bs v vs)
+
+pub stores-put : (l : List ℕ) (at v : ℕ) (vs : List ℕ) → at + 1 + length vs ≤ length l → stores (set l at v) at 1 vs ≡ put l at (v ∷ vs)
+stores-put l at v vs h = ap (λ (q : List ℕ). stores q at 1 vs) (set-put l at v (omega arith)) ∙ stores-behind vs l at (v ∷ []) 1 refl h
+
+-- the answer and the buffer of a call that put `bs` at the front and counted them
+pub put-wrote : (l bs : List ℕ) {b : List ℕ} {n : ℕ} → b ≡ put l 0 bs → n ≡ length bs → ends (done (n ∷ [])) b ≡ wrote bs l
+put-wrote l bs {b} {n} e f =
+    ap (λ (x : List ℕ). ends (done (n ∷ [])) x) (e ∙ put-front l bs) ∙ ap (λ (i : ℕ). ends (done (i ∷ [])) (bs ++ drop (length bs) l)) f

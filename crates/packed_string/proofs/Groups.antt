@@ -1,0 +1,100 @@
+-- Groups and runs of groups: a group's bytes and codes as the code works them out, that they undo one another, and a run by its turns.
+use Prim.Native.Nat.{ℕ, zero, suc, _+_, _*_, _/_, _%_, _<_}
+use native.Mathlib.Nat.{mod-eq-of-lt}
+use native.Mathlib.Omega.{arith}
+use mathlib.Core.Path.{_≡_, refl, ap, _∙_}
+use mathlib.Core.List.{List, [], _∷_, _++_, map}
+use lib.ListN.{length, getD, length-append}
+use lib.Dec.{lit<}
+use Rattle.octets.specs.Digits.{fromDigits, digits}
+use Rattle.octets.proofs.Digits.{below-at, digits-below, length-digits, from-digits, digits-from}
+use Rattle.packed_string.specs.declared.Mode.{Mode}
+use Rattle.packed_string.specs.declared.Mode.the-variants.{Crate, Standard}
+use Rattle.packed_string.specs.Text.{codeOf, charOf, charsAt, bytesAt, packGroup, unpackGroup, packedGroup, unpackedGroup, packed, unpacked}
+
+-- three digits base 256 of four digits base 64, byte by byte
+pub pack-group : (a b c d : ℕ) → a < 64 → b < 64 → c < 64 → d < 64 → (a * 4 + b / 16) ∷ (b % 16 * 16 + c / 4) ∷ (c % 4 * 64 + d) ∷ [] ≡ packGroup (a ∷ b ∷ c ∷ d ∷ [])
+unfolding packGroup
+pack-group a b c d ha hb hc hd =
+    let n = fromDigits 64 (a ∷ b ∷ c ∷ d ∷ []) in
+    let high : a * 4 + b / 16 ≡ n / 256 / 256 % 256 = omega arith in
+    let middle : b % 16 * 16 + c / 4 ≡ n / 256 % 256 = omega arith in
+    let low : c % 4 * 64 + d ≡ n % 256 = omega arith in
+    rw (high, middle, low)
+
+-- four digits base 64 of three digits base 256, code by code
+pub unpack-group : (a b c : ℕ) → a < 256 → b < 256 → c < 256 → (a / 4) ∷ (a % 4 * 16 + b / 16) ∷ (b % 16 * 4 + c / 64) ∷ (c % 64) ∷ [] ≡ unpackGroup (a ∷ b ∷ c ∷ [])
+unfolding unpackGroup
+unpack-group a b c ha hb hc =
+    let n = fromDigits 256 (a ∷ b ∷ c ∷ []) in
+    let first : a / 4 ≡ n / 64 / 64 / 64 % 64 = omega arith in
+    let second : a % 4 * 16 + b / 16 ≡ n / 64 / 64 % 64 = omega arith in
+    let third : b % 16 * 4 + c / 64 ≡ n / 64 % 64 = omega arith in
+    let fourth : c % 64 ≡ n % 64 = omega arith in
+    rw (first, second, third, fourth)
+
+-- a group's number is below 2^24, so three bytes hold it whole and its codes come back
+pub group-back : (a b c d : ℕ) → a < 64 → b < 64 → c < 64 → d < 64 → unpackGroup (packGroup (a ∷ b ∷ c ∷ d ∷ [])) ≡ a ∷ b ∷ c ∷ d ∷ []
+unfolding packGroup unpackGroup
+group-back a b c d ha hb hc hd =
+    let codes = a ∷ b ∷ c ∷ d ∷ [] in
+    let small : fromDigits 64 codes < 16777216 = omega arith in
+    ap (digits 64 4) (from-digits 256 3 (fromDigits 64 codes) (lit< tt) ∙ mod-eq-of-lt small) ∙ digits-from 64 codes (ha, (hb, (hc, (hd, tt))))
+
+pub code-below : (m : Mode) (c : ℕ) → codeOf m c < 64
+code-below Crate c = omega arith
+code-below Standard c = omega arith
+
+pub unpacked-below : (bytes : List ℕ) {codes : List ℕ} → codes ≡ unpackGroup bytes → (i : ℕ) → getD codes i 0 < 64
+unfolding unpackGroup
+unpacked-below bytes e i = rw e (below-at 64 (digits 64 4 (fromDigits 256 bytes)) (digits-below 64 4 (fromDigits 256 bytes) (lit< tt)) (lit< tt) i)
+
+module _ (m : Mode) (s : List ℕ) (g : ℕ) where
+  -- a group of the text from its four codes and the three bytes that they make
+  pub packed-group : {a b c d : ℕ} {bytes : List ℕ} → a ≡ codeOf m (getD s (g * 4) 0x20) → b ≡ codeOf m (getD s (g * 4 + 1) 0x20)
+      → c ≡ codeOf m (getD s (g * 4 + 2) 0x20) → d ≡ codeOf m (getD s (g * 4 + 3) 0x20) → bytes ≡ packGroup (a ∷ b ∷ c ∷ d ∷ [])
+      → getD bytes 0 0 ∷ getD bytes 1 0 ∷ getD bytes 2 0 ∷ [] ≡ packedGroup m s g
+  unfolding packGroup
+  packed-group {a} {b} {c} {d} ea eb ec ed e =
+      let codes : a ∷ b ∷ c ∷ d ∷ [] ≡ map (codeOf m) (charsAt s g) = cc in
+      ap (λ (l : List ℕ). getD l 0 0 ∷ getD l 1 0 ∷ getD l 2 0 ∷ []) (e ∙ ap packGroup codes)
+
+  -- a group of characters from the four codes that three bytes make
+  pub unpacked-group : {a b c d : ℕ} {codes : List ℕ} → codes ≡ unpackGroup (bytesAt s g) → a ≡ charOf m (getD codes 0 0) → b ≡ charOf m (getD codes 1 0)
+      → c ≡ charOf m (getD codes 2 0) → d ≡ charOf m (getD codes 3 0) → a ∷ b ∷ c ∷ d ∷ [] ≡ unpackedGroup m s g
+  unfolding unpackGroup
+  unpacked-group {codes = codes} e ea eb ec ed =
+      rw (ea, eb, ec, ed) (ap (λ (l : List ℕ). map (charOf m) (getD l 0 0 ∷ getD l 1 0 ∷ getD l 2 0 ∷ getD l 3 0 ∷ [])) e)
+
+module _ (m : Mode) (s : List ℕ) where
+  pub packed-zero : packed m s 0 ≡ []
+  unfolding packed
+  packed-zero = refl
+
+  pub packed-suc : (g : ℕ) → packed m s (suc g) ≡ packed m s g ++ packedGroup m s g
+  unfolding packed
+  packed-suc g = refl
+
+  pub length-packed : (g : ℕ) → length (packed m s g) ≡ g * 3
+  unfolding packed packGroup
+  length-packed zero = refl
+  length-packed (suc g) = omega (arith, length-append (packed m s g) (packedGroup m s g), length-packed g)
+
+  pub unpacked-zero : unpacked m s 0 ≡ []
+  unfolding unpacked
+  unpacked-zero = refl
+
+  pub unpacked-suc : (g : ℕ) → unpacked m s (suc g) ≡ unpacked m s g ++ unpackedGroup m s g
+  unfolding unpacked
+  unpacked-suc g = refl
+
+  pub length-unpacked : (g : ℕ) → length (unpacked m s g) ≡ g * 4
+  unfolding unpacked unpackGroup
+  length-unpacked zero = refl
+  length-unpacked (suc g) = omega (arith, length-append (unpacked m s g) (unpackedGroup m s g), length-unpacked g)
+
+-- within a list the default is of no use
+pub getD-any : (s : List ℕ) (i d e : ℕ) → i < length s → getD s i d ≡ getD s i e
+getD-any [] i d e h = absurd (omega arith)
+getD-any (x ∷ s) zero d e h = refl
+getD-any (x ∷ s) (suc i) d e h = getD-any s i d e (omega arith)

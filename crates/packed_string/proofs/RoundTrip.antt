@@ -1,0 +1,155 @@
+-- What was written reads back: each character as `readBack` says, the last group filled with spaces; and a character of 0x20 to 0x5F as
+-- itself, in both modes.
+use Prim.Native.Nat.{ℕ, zero, suc, _+_, _*_, _-_, _/_, _%_, _≤_, _<_, min}
+use native.Mathlib.Nat.{add-zero, min-eq-left}
+use native.Mathlib.Omega.{arith}
+use mathlib.Core.Path.{_≡_, refl, sym, ap, ap₂, _∙_}
+use mathlib.Core.Bool.{Bool, true, false, cond}
+use mathlib.Core.List.{List, [], _∷_, _++_, map, append-assoc, append-nil, map-append}
+use lib.ListN.{length, take, drop, getD, replicate, length-append, length-replicate}
+use lib.Seq.{drop-cons, take-add, take-all, getD-append-add}
+use lib.Dec.{ltb, lit≤}
+use borrow.Author.Tests.{ltb-true, ltb-false}
+use Rattle.refusal.specs.Outcome.{wrote}
+use Rattle.packed_string.specs.declared.Mode.{Mode}
+use Rattle.packed_string.specs.declared.Mode.the-variants.{Crate, Standard}
+use Rattle.packed_string.specs.Text.{
+  codeOf,
+  charOf,
+  packGroup,
+  unpackGroup,
+  charsAt,
+  bytesAt,
+  packedGroup,
+  unpackedGroup,
+  packed,
+  unpacked,
+  groups,
+  cratePacked,
+  crateUnpacked,
+  standardPacked,
+  standardUnpacked,
+  readBack,
+  filled,
+  Plain,
+}
+use Rattle.packed_string.proofs.Groups.{code-below, group-back, packed-suc, length-packed, unpacked-zero, unpacked-suc}
+use Rattle.packed_string.proofs.BadPlace.{plain-place}
+use Rattle.packed_string.proofs.Calls.{crate-packs, crate-unpacks, standard-packs, standard-unpacks}
+
+-- the bytes of a group, where g groups stand before them
+bytes-behind : (p : List ℕ) (g : ℕ) (x y z : ℕ) (rest : List ℕ) → length p ≡ g * 3 → bytesAt (p ++ (x ∷ y ∷ z ∷ rest)) g ≡ x ∷ y ∷ z ∷ []
+bytes-behind p g x y z rest e =
+    let l = p ++ (x ∷ y ∷ z ∷ rest) in
+    let at : (j : ℕ) → getD l (g * 3 + j) 0 ≡ getD (x ∷ y ∷ z ∷ rest) j 0 = λ j. ap (λ (i : ℕ). getD l (i + j) 0) (sym e) ∙ getD-append-add p (x ∷ y ∷ z ∷ rest) j 0 in
+    let first : getD l (g * 3) 0 ≡ x = ap (λ (i : ℕ). getD l i 0) (sym (add-zero (g * 3))) ∙ at 0 in
+    rw (first, at 1, at 2)
+
+-- the characters of the first groups, the last one filled
+abbrev shown : List ℕ → ℕ → List ℕ
+shown text zero = []
+shown text (suc g) = shown text g ++ charsAt text g
+
+module _ (m : Mode) (text : List ℕ) where
+  group-read : (p rest : List ℕ) (g : ℕ) → length p ≡ g * 3 → unpackedGroup m (p ++ (packedGroup m text g ++ rest)) g ≡ map (readBack m) (charsAt text g)
+  unfolding packGroup
+  group-read p rest g e =
+      let code : ℕ → ℕ = λ i. codeOf m (getD text i 0x20) in
+      ap (λ (l : List ℕ). map (charOf m) (unpackGroup l)) (bytes-behind p g _ _ _ rest e)
+      ∙ ap (map (charOf m)) (group-back (code (g * 4)) (code (g * 4 + 1)) (code (g * 4 + 2)) (code (g * 4 + 3)) (code-below m _) (code-below m _) (code-below m _) (code-below m _))
+
+  -- whatever stands behind them, the first groups read back
+  pub groups-back : (g : ℕ) (rest : List ℕ) → unpacked m (packed m text g ++ rest) g ≡ map (readBack m) (shown text g)
+  groups-back zero rest = unpacked-zero m (packed m text 0 ++ rest)
+  groups-back (suc g) rest =
+      let p = packed m text g in
+      let q = packedGroup m text g in
+      ap (λ (l : List ℕ). unpacked m l (suc g)) (ap (λ (l : List ℕ). l ++ rest) (packed-suc m text g) ∙ append-assoc p q rest)
+      ∙ unpacked-suc m (p ++ (q ++ rest)) g
+      ∙ ap₂ _++_ (groups-back g (q ++ rest)) (group-read p rest g (length-packed m text g))
+      ∙ sym (map-append (readBack m) (shown text g) (charsAt text g))
+
+-- past the end of a text stands a space, whether or not spaces were put there
+getD-spaces : (k i : ℕ) → getD {A = ℕ} (replicate k 0x20) i 0x20 ≡ 0x20
+getD-spaces zero i = refl
+getD-spaces (suc k) zero = refl
+getD-spaces (suc k) (suc i) = getD-spaces k i
+
+getD-filled : (text : List ℕ) (k i : ℕ) → getD (text ++ replicate k 0x20) i 0x20 ≡ getD text i 0x20
+getD-filled [] k i = getD-spaces k i
+getD-filled (c ∷ text) k zero = refl
+getD-filled (c ∷ text) k (suc i) = getD-filled text k i
+
+four : (l : List ℕ) (n : ℕ) → n + 4 ≤ length l → take 4 (drop n l) ≡ getD l n 0x20 ∷ getD l (n + 1) 0x20 ∷ getD l (n + 2) 0x20 ∷ getD l (n + 3) 0x20 ∷ []
+four l n h =
+    let e1 : n + 1 ≡ suc n = omega arith in
+    let e2 : n + 2 ≡ suc (suc n) = omega arith in
+    let e3 : n + 3 ≡ suc (suc (suc n)) = omega arith in
+    rw (e1, e2, e3, drop-cons l n 0x20 (omega arith), drop-cons l (suc n) 0x20 (omega arith), drop-cons l (suc (suc n)) 0x20 (omega arith), drop-cons l (suc (suc (suc n))) 0x20 (omega arith))
+
+shown-take : (text : List ℕ) (k g : ℕ) → g * 4 ≤ length (text ++ replicate k 0x20) → shown text g ≡ take (g * 4) (text ++ replicate k 0x20)
+shown-take text k zero h = refl
+shown-take text k (suc g) h =
+    let l = text ++ replicate k 0x20 in
+    let e : suc g * 4 ≡ g * 4 + 4 = omega arith in
+    let chars : charsAt text g ≡ take 4 (drop (g * 4) l) = sym (four l (g * 4) (omega arith) ∙ rw (getD-filled text k (g * 4), getD-filled text k (g * 4 + 1), getD-filled text k (g * 4 + 2), getD-filled text k (g * 4 + 3))) in
+    ap₂ _++_ (shown-take text k g (omega arith)) chars ∙ sym (ap (λ (i : ℕ). take i l) e ∙ take-add (g * 4) 4 l)
+
+pub length-filled : (text : List ℕ) → length (filled text) ≡ groups (length text) * 4
+length-filled text =
+    let k = groups (length text) * 4 - length text in
+    omega (arith, length-append text (replicate k 0x20), length-replicate {A = ℕ} k 0x20)
+
+shown-filled : (text : List ℕ) → shown text (groups (length text)) ≡ filled text
+shown-filled text =
+    let n = groups (length text) * 4 in
+    let e : length (filled text) ≡ n = length-filled text in
+    shown-take text (n - length text) (groups (length text)) (omega arith) ∙ take-all n (filled text) (omega arith)
+
+-- a whole text, written and read
+pub text-back : (m : Mode) (text : List ℕ) → let g = groups (length text) in unpacked m (packed m text g) g ≡ map (readBack m) (filled text)
+text-back m text =
+    let g = groups (length text) in
+    ap (λ (l : List ℕ). unpacked m l g) (sym (append-nil (packed m text g))) ∙ groups-back m text g [] ∙ ap (map (readBack m)) (shown-filled text)
+
+-- a character of 0x20 to 0x5F reads back as itself
+standard-back : (c : ℕ) (t : Bool) → 0x20 ≤ c → c ≤ 0x5F → ltb (c % 64) 32 ≡ t → cond t (c % 64 + 64) (c % 64) ≡ c
+standard-back c true l h e = omega (arith, ltb-true (c % 64) 32 e)
+standard-back c false l h e = omega (arith, ltb-false (c % 64) 32 e)
+
+pub character-back : (m : Mode) (c : ℕ) → 0x20 ≤ c → c ≤ 0x5F → readBack m c ≡ c
+character-back Crate c l h = omega arith
+character-back Standard c l h = standard-back c (ltb (c % 64) 32) l h refl
+
+pub plain-back : (m : Mode) (text : List ℕ) → Plain text → map (readBack m) text ≡ text
+plain-back m [] p = refl
+plain-back m (c ∷ text) p = ap₂ _∷_ (character-back m c (p .0 .0) (p .0 .1)) (plain-back m text (p .1))
+
+pub plain-filled : (text : List ℕ) (k : ℕ) → Plain text → Plain (text ++ replicate k 0x20)
+plain-filled [] zero p = tt
+plain-filled [] (suc k) p = ((lit≤ tt, lit≤ tt), plain-filled [] k tt)
+plain-filled (c ∷ text) k p = (p .0, plain-filled text k (p .1))
+
+-- Of the calls: where there is room, what one writes the other reads.
+module _ (text buffer out : List ℕ) (room : groups (length text) ≤ length buffer / 3) (room′ : groups (length text) ≤ length out / 4) where
+  groups-packed : (m : Mode) → length (packed m text (groups (length text))) / 3 ≡ groups (length text)
+  groups-packed m = omega (arith, length-packed m text (groups (length text)))
+
+  pub crate-round-trip : let bytes = packed Crate text (groups (length text)) in (cratePacked text buffer ≡ wrote bytes buffer) × (crateUnpacked bytes out ≡ wrote (map (readBack Crate) (filled text)) out)
+  crate-round-trip =
+      let bytes = packed Crate text (groups (length text)) in (
+        crate-packs text buffer (min-eq-left room),
+        crate-unpacks bytes out (ap (λ (k : ℕ). min k (length out / 4)) (groups-packed Crate) ∙ min-eq-left room′) ∙ ap (λ (l : List ℕ). wrote l out) (text-back Crate text),
+      )
+
+  pub standard-round-trip : Plain text → let bytes = packed Standard text (groups (length text)) in (standardPacked text buffer ≡ wrote bytes buffer) × (standardUnpacked bytes out ≡ wrote (filled text) out)
+  standard-round-trip plain =
+      let n = groups (length text) in
+      let bytes = packed Standard text n in
+      let whole : length bytes % 3 ≡ 0 = omega (arith, length-packed Standard text n) in
+      let same : map (readBack Standard) (filled text) ≡ filled text = plain-back Standard (filled text) (plain-filled text (n * 4 - length text) plain) in (
+        standard-packs text buffer room (omega (arith, plain-place text plain)),
+        standard-unpacks bytes out whole (omega (arith, groups-packed Standard))
+            ∙ ap (λ (k : ℕ). wrote (unpacked Standard bytes k) out) (groups-packed Standard)
+            ∙ ap (λ (l : List ℕ). wrote l out) (text-back Standard text ∙ same),
+      )

@@ -1,0 +1,63 @@
+-- The loop's invariant: the first g groups stand packed at the front of the buffer.
+use Prim.Native.Nat.{_*_, _-_, _≤_}
+use native.Mathlib.Numerals.{add-one}
+use native.Mathlib.Omega.{arith}
+use mathlib.Core.Path.{_≡_, refl, sym, ap, _∙_}
+use lib.ListN.{length}
+use Rattle.octets.specs.Put.{put}
+use Rattle.octets.proofs.Put.{put-nil, put-more}
+use Rattle.packed_string.specs.Text.{packedGroup, packed}
+use Rattle.packed_string.proofs.Groups.{packed-zero, packed-suc, length-packed}
+use Rattle.packed_string.proofs.group.pack.Statement.{statement}
+use Rattle.packed_string.proofs.group.pack.Tie as tie
+
+abbrev Inv-loop : tie.InvT-loop
+Inv-loop mode src n dst₀ g₀ dst g = (g ≤ n) × ((dst ≡ put dst₀ 0 (packed mode src g)) × (length dst ≡ length dst₀))
+
+abbrev μ-loop : tie.MeasureT-loop
+μ-loop mode src n dst₀ g₀ dst g = n - g
+
+loop-holds : tie.Need-loop-holds Inv-loop μ-loop
+loop-holds c = let a = c .before .before .args in (omega arith, (sym (ap (put (a .dst .now) 0) (packed-zero (a .mode) (a .src .now)) ∙ put-nil (a .dst .now) 0), refl))
+
+put-packed-requires : tie.Need-put-packed-requires Inv-loop μ-loop
+put-packed-requires c κs = omega arith
+
+add-g : tie.Need-add-g Inv-loop μ-loop
+add-g c = omega arith
+
+loop-less : tie.Need-loop-less Inv-loop μ-loop
+loop-less c = omega arith
+
+loop-again : tie.Need-loop-again Inv-loop μ-loop
+loop-again c =
+    let l = c .before .before .before .before .before in
+    let a = l .before .before .before .args in
+    let g = l .loop .g in
+    let s = a .src .now in (
+      omega arith,
+      (
+        put-more (a .dst .now) (packed (a .mode) s g) (packedGroup (a .mode) s g) (g * 3) (l .loop .inv .1 .0) (c .before .before .put-packed .ensures) (length-packed (a .mode) s g) (omega arith) (ap (packed (a .mode) s) (add-one g) ∙ packed-suc (a .mode) s g),
+        omega (arith, l .loop .inv .1 .1, c .before .before .put-packed .kept),
+      ),
+    )
+
+same-length : tie.Need-same-length Inv-loop μ-loop
+same-length c = c .before .loop .inv .1 .1
+
+returns : tie.Need-returns Inv-loop μ-loop
+returns c = let e : c .before .loop .g ≡ c .before .before .before .before .args .n = omega arith in rw e at (c .before .loop .inv .1 .0)
+
+pub pack-spec : {M : Type 1} → statement M
+pack-spec =
+    tie.close
+    (tie.spec
+    Inv-loop
+    μ-loop
+    loop-holds
+    put-packed-requires
+    add-g
+    loop-less
+    loop-again
+    same-length
+    returns)

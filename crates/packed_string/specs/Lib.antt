@@ -1,0 +1,3 @@
+-- Document 01, 'Packed text', and the Rust's own lines for it.
+pub mod Text
+pub mod Source
