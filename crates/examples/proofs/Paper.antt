@@ -1,8 +1,8 @@
 -- Every example marked (P) in document 01 comes out as it says: one statement over the list of specs/Paper.antt, by computing.
 use mathlib.Core.Path.{_≡_, refl}
-use mathlib.Core.List.{List, map}
+use mathlib.Core.List.{map}
 use Rattle.packed_string.specs.Text.{packGroup, unpackGroup, packed, unpacked, badPlace, cratePacked, crateUnpacked, standardPacked}
-use Rattle.examples.specs.Paper.{Example, Shown, examples}
+use Rattle.examples.specs.Paper.{Example, examples}
 
 pub examples-hold : map (λ (e : Example). e .comes) examples ≡ map (λ (e : Example). e .said) examples
 unfolding packGroup unpackGroup packed unpacked badPlace cratePacked crateUnpacked standardPacked

@@ -20,7 +20,7 @@ left (ends reply buffer) = buffer
 abbrev room : ℕ → List ℕ
 room n = replicate n 0
 
--- "TEST": crate D2 5C F4, standard 50 54 D4
+-- the word TEST, in each mode
 abbrev test : List ℕ
 test = 0x54 ∷ 0x45 ∷ 0x53 ∷ 0x54 ∷ []
 
@@ -30,7 +30,7 @@ test-crate = record { comes = outcome (cratePacked test (room 3)); said = outcom
 abbrev test-standard : Example
 test-standard = record { comes = outcome (standardPacked test (room 3)); said = outcome (ends (done (3 ∷ [])) (0x50 ∷ 0x54 ∷ 0xD4 ∷ [])) }
 
--- 'a' reads back as '!' in crate mode, from the very bytes that were written, spaces behind it; standard 7
+-- the letter a: in crate mode the very bytes that were written are read, to an exclamation mark and spaces; standard mode has no code for it
 abbrev a-crate : Example
 a-crate = record { comes = outcome (crateUnpacked (left (cratePacked (0x61 ∷ []) (room 3))) (room 4)); said = outcome (ends (done (4 ∷ [])) (0x21 ∷ 0x20 ∷ 0x20 ∷ 0x20 ∷ [])) }
 

@@ -1,4 +1,4 @@
-// A line for each example, and one at the end.
+// What an example prints.
 use libc::STDOUT_FILENO;
 use refusal::Refusal;
 use refusal::Written;
@@ -41,6 +41,14 @@ pub(crate) fn answer_of(written: Written) -> Answer {
     }
 }
 
+pub(crate) fn print(text: &[u8]) {
+    io::write_all(STDOUT_FILENO, text);
+}
+
+pub(crate) fn print_number(n: usize) {
+    io::print_decimal(STDOUT_FILENO, n as u64);
+}
+
 fn hex_digit(n: u8) -> u8 {
     let low = n % 16;
     if low < 10 {
@@ -51,10 +59,10 @@ fn hex_digit(n: u8) -> u8 {
 }
 
 fn print_byte(b: u8) {
-    io::write_all(STDOUT_FILENO, &[b' ', hex_digit(b / 16), hex_digit(b % 16)]);
+    print(&[b' ', hex_digit(b / 16), hex_digit(b % 16)]);
 }
 
-fn print_bytes(bytes: &[u8]) {
+pub(crate) fn print_bytes(bytes: &[u8]) {
     let mut i = 0;
     while i < bytes.len() {
         print_byte(bytes[i]);
@@ -64,52 +72,46 @@ fn print_bytes(bytes: &[u8]) {
 
 fn print_answer(answer: Answer) {
     if answer.number == 0 {
-        io::write_all(STDOUT_FILENO, b"count ");
-    } else {
-        io::write_all(STDOUT_FILENO, b"refused ");
-        io::print_decimal(STDOUT_FILENO, answer.number as u64);
-        io::write_all(STDOUT_FILENO, b", value ");
+        print(b"count ");
+        print_number(answer.value);
+        return;
     }
-    io::print_decimal(STDOUT_FILENO, answer.value as u64);
+    print(b"refused ");
+    print_number(answer.number as usize);
+    if answer.number == 7 {
+        print(b" at place ");
+        print_number(answer.value);
+    }
 }
 
 fn same_answer(a: Answer, b: Answer) -> bool {
     a.number == b.number && a.value == b.value
 }
 
-// Prints whether the answer and the buffer after the call are the wanted ones, and what they are.
-pub(crate) fn line(
-    name: &[u8],
+// Whether the answer and the buffer after a call are the wanted ones, and what they are.
+pub(crate) fn came_out(
     answer: Answer,
-    wanted: Answer,
     buffer: &[u8],
+    wanted: Answer,
     wanted_buffer: &[u8],
 ) -> bool {
+    print(b": ");
+    print_answer(answer);
+    print(b", buffer");
+    print_bytes(buffer);
     let right = same_answer(answer, wanted) & check::same(buffer, wanted_buffer);
     if right {
-        io::write_all(STDOUT_FILENO, b"ok     ");
+        print(b"  ok\n");
     } else {
-        io::write_all(STDOUT_FILENO, b"WRONG  ");
+        print(b"  WRONG\n");
     }
-    io::write_all(STDOUT_FILENO, name);
-    io::write_all(STDOUT_FILENO, b": ");
-    print_answer(answer);
-    io::write_all(STDOUT_FILENO, b", buffer");
-    print_bytes(buffer);
-    io::write_all(STDOUT_FILENO, b"\n");
     right
 }
 
 pub(crate) fn close(right: bool) {
     if right {
-        io::write_all(
-            STDOUT_FILENO,
-            b"every example came out as document 01 says\n",
-        );
+        print(b"every example came out as document 01 says\n");
     } else {
-        io::write_all(
-            STDOUT_FILENO,
-            b"SOME EXAMPLE CAME OUT OTHERWISE THAN DOCUMENT 01 SAYS\n",
-        );
+        print(b"SOME EXAMPLE CAME OUT OTHERWISE THAN DOCUMENT 01 SAYS\n");
     }
 }

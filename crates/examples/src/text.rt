@@ -1,7 +1,10 @@
-// Document 01, 'Packed text'. Buffers arrive filled with EE, so that untouched bytes show.
+// Document 01, 'Packed text'. A buffer arrives filled with EE, so that untouched bytes show.
 use crate::report::Answer;
 use crate::report::answer_of;
-use crate::report::line;
+use crate::report::came_out;
+use crate::report::print;
+use crate::report::print_bytes;
+use crate::report::print_number;
 use packed_string::decode_packed;
 use packed_string::decode_standard;
 use packed_string::encode_packed;
@@ -18,100 +21,94 @@ fn refusal(number: u32, value: usize) -> Answer {
     Answer { number, value }
 }
 
-fn packs(name: &[u8], src: &[u8], dst: &mut [u8], n: usize, wanted: &[u8]) -> bool {
-    let written = encode_packed(src, dst);
-    line(name, count(written), count(n), dst, wanted)
+enum Call {
+    EncodePacked,
+    DecodePacked,
+    EncodeStandard,
+    DecodeStandard,
 }
 
-fn unpacks(name: &[u8], src: &[u8], dst: &mut [u8], n: usize, wanted: &[u8]) -> bool {
-    let written = decode_packed(src, dst);
-    line(name, count(written), count(n), dst, wanted)
+fn print_name(call: Call) {
+    match call {
+        Call::EncodePacked => print(b"encode_packed"),
+        Call::DecodePacked => print(b"decode_packed"),
+        Call::EncodeStandard => print(b"encode_standard"),
+        Call::DecodeStandard => print(b"decode_standard"),
+    }
 }
 
-fn packs_standard(name: &[u8], src: &[u8], dst: &mut [u8], answer: Answer, wanted: &[u8]) -> bool {
-    let written = encode_standard(src, dst);
-    line(name, answer_of(written), answer, dst, wanted)
+fn made(call: Call, src: &[u8], dst: &mut [u8]) -> Answer {
+    match call {
+        Call::EncodePacked => count(encode_packed(src, dst)),
+        Call::DecodePacked => count(decode_packed(src, dst)),
+        Call::EncodeStandard => answer_of(encode_standard(src, dst)),
+        Call::DecodeStandard => answer_of(decode_standard(src, dst)),
+    }
 }
 
-fn unpacks_standard(
-    name: &[u8],
+fn shown(call: Call, src: &[u8], dst: &mut [u8], wanted: Answer, wanted_dst: &[u8]) -> bool {
+    print_name(call);
+    print_bytes(src);
+    print(b" into ");
+    print_number(dst.len());
+    let answer = made(call, src, dst);
+    came_out(answer, dst, wanted, wanted_dst)
+}
+
+fn shown_in(
+    call: Call,
     src: &[u8],
-    dst: &mut [u8],
-    answer: Answer,
-    wanted: &[u8],
+    buffer: &mut [u8],
+    room: usize,
+    wanted: Answer,
+    wanted_dst: &[u8],
 ) -> bool {
-    let written = decode_standard(src, dst);
-    line(name, answer_of(written), answer, dst, wanted)
+    if buffer.len() < room {
+        return false;
+    }
+    shown(call, src, &mut buffer[..room], wanted, wanted_dst)
+}
+
+// One call with a buffer of so many bytes, the answer that it should give and the bytes that should
+// then stand in the buffer.
+fn example(call: Call, src: &[u8], room: usize, wanted: Answer, wanted_dst: &[u8]) -> bool {
+    let mut buffer = [0xEE; 8];
+    shown_in(call, src, &mut buffer, room, wanted, wanted_dst)
 }
 
 fn writes_crate() -> bool {
-    let mut test = [0xEE; 3];
-    let a = packs(b"TEST, crate mode", b"TEST", &mut test, 3, b"\xD2\x5C\xF4");
-    let mut long = [0xEE; 5];
-    let b = packs(
-        b"TEST into five bytes",
-        b"TEST",
-        &mut long,
-        3,
-        b"\xD2\x5C\xF4\xEE\xEE",
-    );
-    let mut small = [0xEE; 2];
-    let c = packs(b"TEST into two bytes", b"TEST", &mut small, 0, b"\xEE\xEE");
-    let mut two = [0xEE; 6];
-    let d = packs(
-        b"TESTS, filled",
-        b"TESTS",
-        &mut two,
-        6,
-        b"\xD2\x5C\xF4\xCC\x00\x00",
-    );
-    let mut one = [0xEE; 5];
-    let e = packs(
-        b"TESTS into five bytes",
-        b"TESTS",
-        &mut one,
-        3,
-        b"\xD2\x5C\xF4\xEE\xEE",
-    );
-    let mut none = [0xEE; 3];
-    let f = packs(b"no text", b"", &mut none, 0, b"\xEE\xEE\xEE");
-    a & b & c & d & e & f
+    let call = Call::EncodePacked;
+    let a = example(call, b"TEST", 3, count(3), b"\xD2\x5C\xF4");
+    let b = example(call, b"TEST", 5, count(3), b"\xD2\x5C\xF4\xEE\xEE");
+    let c = example(call, b"TEST", 2, count(0), b"\xEE\xEE");
+    let d = example(call, b"TESTS", 6, count(6), b"\xD2\x5C\xF4\xCC\x00\x00");
+    let e = example(call, b"TESTS", 5, count(3), b"\xD2\x5C\xF4\xEE\xEE");
+    let f = example(call, b"", 3, count(0), b"\xEE\xEE\xEE");
+    let g = example(call, b"a", 3, count(3), b"\x04\x00\x00");
+    a & b & c & d & e & f & g
 }
 
 fn reads_crate() -> bool {
-    let mut lower = [0xEE; 3];
-    let a = packs(b"a, crate mode", b"a", &mut lower, 3, b"\x04\x00\x00");
-    let mut back = [0xEE; 4];
-    let b = unpacks(b"a read back as !", &lower, &mut back, 4, b"!   ");
-    let mut test = [0xEE; 5];
-    let c = unpacks(b"TEST read", b"\xD2\x5C\xF4", &mut test, 4, b"TEST\xEE");
-    let mut left = [0xEE; 8];
-    let d = unpacks(
-        b"one byte left over",
+    let call = Call::DecodePacked;
+    let a = example(call, b"\x04\x00\x00", 4, count(4), b"!   ");
+    let b = example(call, b"\xD2\x5C\xF4", 5, count(4), b"TEST\xEE");
+    let c = example(
+        call,
         b"\xD2\x5C\xF4\x55",
-        &mut left,
-        4,
+        8,
+        count(4),
         b"TEST\xEE\xEE\xEE\xEE",
     );
-    let mut more = [0xEE; 8];
-    let e = unpacks(
-        b"two bytes left over",
+    let d = example(
+        call,
         b"\xD2\x5C\xF4\x55\x55",
-        &mut more,
-        4,
+        8,
+        count(4),
         b"TEST\xEE\xEE\xEE\xEE",
     );
-    let mut small = [0xEE; 3];
-    let f = unpacks(
-        b"TEST read into three bytes",
-        b"\xD2\x5C\xF4",
-        &mut small,
-        0,
-        b"\xEE\xEE\xEE",
-    );
-    let mut none = [0xEE; 4];
-    let g = unpacks(b"no bytes", b"", &mut none, 0, b"\xEE\xEE\xEE\xEE");
-    a & b & c & d & e & f & g
+    let e = example(call, b"\xD2\x5C\xF4", 3, count(0), b"\xEE\xEE\xEE");
+    let f = example(call, b"", 4, count(0), b"\xEE\xEE\xEE\xEE");
+    a & b & c & d & e & f
 }
 
 pub(crate) fn crate_mode() -> bool {
@@ -121,108 +118,44 @@ pub(crate) fn crate_mode() -> bool {
 }
 
 fn writes_standard() -> bool {
-    let mut test = [0xEE; 3];
-    let a = packs_standard(
-        b"TEST, standard mode",
-        b"TEST",
-        &mut test,
-        count(3),
-        b"\x50\x54\xD4",
-    );
-    let mut lower = [0xEE; 3];
-    let b = packs_standard(
-        b"a, standard mode",
-        b"a",
-        &mut lower,
-        refusal(7, 0),
-        b"\xEE\xEE\xEE",
-    );
-    let mut small = [0xEE; 2];
-    let c = packs_standard(
-        b"TaST into two bytes",
-        b"TaST",
-        &mut small,
-        refusal(2, 0),
-        b"\xEE\xEE",
-    );
-    let mut fifth = [0xEE; 6];
-    let d = packs_standard(
+    let call = Call::EncodeStandard;
+    let a = example(call, b"TEST", 3, count(3), b"\x50\x54\xD4");
+    let b = example(call, b"a", 3, refusal(7, 0), b"\xEE\xEE\xEE");
+    let c = example(call, b"TaST", 2, refusal(2, 0), b"\xEE\xEE");
+    let d = example(
+        call,
         b"TESTa",
-        b"TESTa",
-        &mut fifth,
+        6,
         refusal(7, 4),
         b"\xEE\xEE\xEE\xEE\xEE\xEE",
     );
-    let mut filled = [0xEE; 7];
-    let e = packs_standard(
-        b"TESTS, filled",
-        b"TESTS",
-        &mut filled,
-        count(6),
-        b"\x50\x54\xD4\x4E\x08\x20\xEE",
-    );
-    let mut none = [0xEE; 1];
-    let f = packs_standard(b"no text", b"", &mut none, count(0), b"\xEE");
+    let e = example(call, b"TESTS", 7, count(6), b"\x50\x54\xD4\x4E\x08\x20\xEE");
+    let f = example(call, b"", 0, count(0), b"");
     a & b & c & d & e & f
 }
 
+// The first and the last character that have a code, and their neighbours.
 fn bounds_standard() -> bool {
-    let mut ends = [0xEE; 3];
-    let a = packs_standard(
-        b"20 and 5F",
-        b"\x20\x5F\x5F\x20",
-        &mut ends,
-        count(3),
-        b"\x81\xF7\xE0",
-    );
-    let mut below = [0xEE; 3];
-    let b = packs_standard(
-        b"1F",
-        b"\x20\x1F",
-        &mut below,
-        refusal(7, 1),
-        b"\xEE\xEE\xEE",
-    );
-    let mut above = [0xEE; 3];
-    let c = packs_standard(b"60", b"\x60", &mut above, refusal(7, 0), b"\xEE\xEE\xEE");
+    let call = Call::EncodeStandard;
+    let a = example(call, b"\x20\x5F\x5F\x20", 3, count(3), b"\x81\xF7\xE0");
+    let b = example(call, b"\x20\x1F", 3, refusal(7, 1), b"\xEE\xEE\xEE");
+    let c = example(call, b"\x60", 3, refusal(7, 0), b"\xEE\xEE\xEE");
     a & b & c
 }
 
 fn reads_standard() -> bool {
-    let mut test = [0xEE; 4];
-    let a = unpacks_standard(
-        b"TEST read, standard mode",
-        b"\x50\x54\xD4",
-        &mut test,
-        count(4),
-        b"TEST",
-    );
-    let mut left = [0xEE; 4];
-    let b = unpacks_standard(
-        b"four bytes",
+    let call = Call::DecodeStandard;
+    let a = example(call, b"\x50\x54\xD4", 4, count(4), b"TEST");
+    let b = example(
+        call,
         b"\x50\x54\xD4\x00",
-        &mut left,
+        4,
         refusal(3, 0),
         b"\xEE\xEE\xEE\xEE",
     );
-    let mut both = [0xEE; 1];
-    let c = unpacks_standard(
-        b"four bytes and no room",
-        b"\x50\x54\xD4\x00",
-        &mut both,
-        refusal(3, 0),
-        b"\xEE",
-    );
-    let mut small = [0xEE; 3];
-    let d = unpacks_standard(
-        b"TEST read into three bytes",
-        b"\x50\x54\xD4",
-        &mut small,
-        refusal(2, 0),
-        b"\xEE\xEE\xEE",
-    );
-    let mut none = [0xEE; 1];
-    let e = unpacks_standard(b"no bytes", b"", &mut none, count(0), b"\xEE");
+    let c = example(call, b"\x50\x54\xD4\x00", 0, refusal(3, 0), b"");
+    let d = example(call, b"\x50\x54\xD4", 3, refusal(2, 0), b"\xEE\xEE\xEE");
+    let e = example(call, b"", 0, count(0), b"");
     a & b & c & d & e
 }
 

@@ -1,6 +1,6 @@
 -- The check over runs of bytes.
 use Prim.Native.Nat.{ℕ, zero, suc, _<_}
-use mathlib.Core.Path.{_≡_, refl, sym, ap, _∙_}
+use mathlib.Core.Path.{_≡_, refl, ap, _∙_}
 use mathlib.Core.List.{List, [], _∷_, _++_, foldl-append}
 use lib.ListN.{replicate}
 use lib.Bits.{bitXor, xor-lt, xor-zero-r}

@@ -1,12 +1,13 @@
 -- Digits: how many, how large, and that writing and reading undo one another, in any base and for any count.
 use Prim.Native.Nat.{ℕ, zero, suc, _+_, _*_, _/_, _%_, _^_, _<_}
-use native.Mathlib.Nat.{add-zero, zero-add, mod-one, mod-lt, one-le-pow, pow-zero, pow-suc}
+use native.Mathlib.Nat.{add-zero, zero-add, mod-one, mod-lt, mod-eq-of-lt, one-le-pow, pow-zero, pow-suc}
 use native.Mathlib.Omega.{arith}
 use mathlib.Core.Path.{_≡_, refl, sym, ap, ap₂, _∙_}
 use mathlib.Core.List.{List, [], _∷_, _++_, foldl, foldl-append, append-nil}
 use lib.ListN.{length, getD, length-append}
 use lib.Seq.{append-snoc}
-use lib.Arith.{digits-div, digits-mod, mod-mul}
+use lib.Arith.{digits-lt, digits-div, digits-mod, mod-mul}
+use lib.Dec.{lit<}
 use Rattle.octets.specs.Digits.{digits, fromDigits}
 
 -- each of a list's numbers is a digit in the base
@@ -42,6 +43,20 @@ from-digits base (suc count) n h =
     from-snoc base (digits base count (n / base)) (n % base)
     ∙ ap (λ (k : ℕ). k * base + n % base) (from-digits base count (n / base) h)
     ∙ sym (ap (λ (k : ℕ). n % k) (pow-suc base count) ∙ mod-mul n (one-le-pow count base h) h)
+
+-- a number that the digits can hold comes back whole
+pub from-digits-whole : (base count n : ℕ) → 0 < base → n < base ^ count → fromDigits base (digits base count n) ≡ n
+from-digits-whole base count n h k = from-digits base count n h ∙ mod-eq-of-lt k
+
+from-below-on : (base n k : ℕ) (ds : List ℕ) → Below base ds → n < base ^ k → foldl (λ (m d : ℕ). m * base + d) n ds < base ^ (k + length ds)
+from-below-on base n k [] h l = rw add-zero l
+from-below-on base n k (d ∷ ds) h l =
+    let e : k + suc (length ds) ≡ suc k + length ds = omega arith in
+    rw e (from-below-on base (n * base + d) (suc k) ds (h .1) (rw pow-suc (digits-lt l (h .0))))
+
+-- so many digits make a number below that power of the base
+pub from-below : (base : ℕ) (ds : List ℕ) → Below base ds → fromDigits base ds < base ^ length ds
+from-below base ds h = rw zero-add at (from-below-on base 0 0 ds h (rw pow-zero (lit< tt)))
 
 -- read from `ds` on, then written
 more : (base count n : ℕ) (ds : List ℕ) → Below base ds → digits base (count + length ds) (foldl (λ (m d : ℕ). m * base + d) n ds) ≡ digits base count n ++ ds

@@ -1,12 +1,12 @@
 -- Bytes put into a buffer: one more byte, one part behind another, the part that was put, and what a call that put them comes to.
-use Prim.Native.Nat.{ℕ, zero, suc, _+_, _≤_, _<_}
+use Prim.Native.Nat.{ℕ, suc, _+_, _≤_, _<_}
 use native.Mathlib.Nat.{add-zero, zero-add}
 use native.Mathlib.Numerals.{add-one}
 use native.Mathlib.Omega.{arith}
 use mathlib.Core.Path.{_≡_, refl, sym, ap, _∙_}
 use mathlib.Core.List.{List, [], _∷_, _++_, append-assoc, append-nil}
-use lib.ListN.{length, take, drop, set, getD, length-append, take-append-drop, length-drop}
-use lib.Seq.{length-take-le, drop-cons, append-snoc, set-at, set-split, take-at, drop-at, drop-drop}
+use lib.ListN.{length, take, drop, set, length-append, take-append-drop, length-drop}
+use lib.Seq.{length-take-le, append-snoc, set-split, take-at, drop-at, drop-drop}
 use Rattle.refusal.specs.Outcome.{done, ends, wrote}
 use Rattle.octets.specs.Put.{put}
 
@@ -38,6 +38,13 @@ module _ (l : List ℕ) (at : ℕ) (bs : List ℕ) where
       (sym (drop-drop (length cs) n (put l at bs)) ∙ ap (drop (length cs)) (drop-at head (drop n l) n g) ∙ drop-drop (length cs) n l)
       ∙ ap (λ (r : List ℕ). r ++ drop (n + length cs) l) (append-assoc (take at l) bs cs)
       ∙ ap (λ (k : ℕ). take at l ++ (bs ++ cs) ++ drop k l) after
+
+  -- what stands before the part and behind it stays
+  pub take-put : at ≤ length l → take at (put l at bs) ≡ take at l
+  take-put h = ap (take at) (append-assoc (take at l) bs (drop (at + length bs) l)) ∙ take-at (take at l) (bs ++ drop (at + length bs) l) at (length-take-le at l h)
+
+  pub drop-put : at ≤ length l → drop (at + length bs) (put l at bs) ≡ drop (at + length bs) l
+  drop-put h = drop-at (take at l ++ bs) (drop (at + length bs) l) (at + length bs) (length-head h)
 
   -- the part itself
   pub part-put : (n : ℕ) → at + length bs ≤ length l → length bs ≡ n → take n (drop at (put l at bs)) ≡ bs

@@ -1,13 +1,12 @@
 -- Groups and runs of groups: a group's bytes and codes as the code works them out, that they undo one another, and a run by its turns.
 use Prim.Native.Nat.{ℕ, zero, suc, _+_, _*_, _/_, _%_, _<_}
-use native.Mathlib.Nat.{mod-eq-of-lt}
 use native.Mathlib.Omega.{arith}
 use mathlib.Core.Path.{_≡_, refl, ap, _∙_}
 use mathlib.Core.List.{List, [], _∷_, _++_, map}
 use lib.ListN.{length, getD, length-append}
 use lib.Dec.{lit<}
 use Rattle.octets.specs.Digits.{fromDigits, digits}
-use Rattle.octets.proofs.Digits.{below-at, digits-below, length-digits, from-digits, digits-from}
+use Rattle.octets.proofs.Digits.{Below, below-at, digits-below, from-digits-whole, from-below, digits-from}
 use Rattle.packed_string.specs.declared.Mode.{Mode}
 use Rattle.packed_string.specs.declared.Mode.the-variants.{Crate, Standard}
 use Rattle.packed_string.specs.Text.{codeOf, charOf, charsAt, bytesAt, packGroup, unpackGroup, packedGroup, unpackedGroup, packed, unpacked}
@@ -38,8 +37,8 @@ pub group-back : (a b c d : ℕ) → a < 64 → b < 64 → c < 64 → d < 64 →
 unfolding packGroup unpackGroup
 group-back a b c d ha hb hc hd =
     let codes = a ∷ b ∷ c ∷ d ∷ [] in
-    let small : fromDigits 64 codes < 16777216 = omega arith in
-    ap (digits 64 4) (from-digits 256 3 (fromDigits 64 codes) (lit< tt) ∙ mod-eq-of-lt small) ∙ digits-from 64 codes (ha, (hb, (hc, (hd, tt))))
+    let below : Below 64 codes = (ha, (hb, (hc, (hd, tt)))) in
+    ap (digits 64 4) (from-digits-whole 256 3 (fromDigits 64 codes) (lit< tt) (from-below 64 codes below)) ∙ digits-from 64 codes below
 
 pub code-below : (m : Mode) (c : ℕ) → codeOf m c < 64
 code-below Crate c = omega arith

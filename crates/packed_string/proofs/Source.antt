@@ -1,7 +1,7 @@
 -- packed_string.rs does what document 01 says of the crate's mode: its lines (specs/Source.antt) and the definitions of specs/Text.antt
 -- come to the same outcome, on every call.
 use Prim.Native.Nat.{ℕ, zero, suc, _+_, _*_, _-_, _/_, _%_, _^_, _≤_, _<_, min}
-use native.Mathlib.Nat.{add-zero, zero-mul, suc-mul, min-eq-left, min-eq-right, mod-eq-of-lt, le-div-iff-mul-le, div-lt-iff-lt-mul}
+use native.Mathlib.Nat.{add-zero, zero-mul, suc-mul, min-eq-left, mod-eq-of-lt, le-div-iff-mul-le, div-lt-iff-lt-mul}
 use native.Mathlib.Omega.{arith}
 use mathlib.Core.Path.{_≡_, refl, sym, ap, _∙_}
 use mathlib.Core.Bool.{Bool, true, false, cond}
@@ -9,13 +9,13 @@ use mathlib.Core.List.{List, [], _∷_, _++_, map}
 use lib.ListN.{length, getD}
 use lib.Bits.{bitAnd, bitOr, and-mask, or-shifted}
 use lib.Dec.{ltb, lit<}
-use borrow.Author.Tests.{ltb-true, ltb-false, lt-ltb, le-ltb}
-use Rattle.refusal.specs.Outcome.{Outcome, ends, done, wrote}
+use borrow.Author.Tests.{ltb-true, ltb-false}
+use Rattle.refusal.specs.Outcome.{ends, done, wrote}
 use Rattle.octets.specs.Put.{put}
 use Rattle.octets.proofs.Digits.{Below, below-at}
 use Rattle.octets.proofs.Put.{length-put, put-nil, put-more, put-wrote, stores-put}
 use Rattle.packed_string.specs.declared.Mode.the-variants.{Crate}
-use Rattle.packed_string.specs.Text.{codeOf, charOf, charsAt, bytesAt, packGroup, unpackGroup, packedGroup, unpackedGroup, packed, unpacked, groups, cratePacked, crateUnpacked}
+use Rattle.packed_string.specs.Text.{codeOf, charOf, packGroup, unpackGroup, packedGroup, unpackedGroup, packed, unpacked, groups, cratePacked, crateUnpacked}
 use Rattle.packed_string.specs.Source.{divCeil, shiftLeft, shiftRight, asU8, sourceCode, storeBytes, storeChars, groupLoop, sourceEncoded, sourceDecoded}
 use Rattle.packed_string.proofs.Groups.{code-below, pack-group, unpack-group, packed-zero, packed-suc, length-packed, unpacked-zero, unpacked-suc, length-unpacked}
 use Rattle.packed_string.proofs.Calls.{crate-packs, crate-unpacks}

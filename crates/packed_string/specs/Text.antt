@@ -1,6 +1,6 @@
--- Document 01, 'Packed text'. A text and some packed bytes are lists of numbers below 256.
+-- Packed text, as document 01 has it under that heading, in its order. Texts and packed bytes are lists of numbers below 256.
 use Prim.Native.Nat.{ℕ, zero, suc, _+_, _*_, _-_, _/_, _%_, _≤_, min}
-use mathlib.Core.Bool.{Bool, true, false, cond, not, _&&_}
+use mathlib.Core.Bool.{cond, not, _&&_}
 use mathlib.Core.List.{List, [], _∷_, _++_, map}
 use lib.ListN.{length, getD, replicate}
 use lib.Dec.{ltb, leb, eqb}
@@ -9,24 +9,24 @@ use Rattle.octets.specs.Digits.{digits, fromDigits}
 use Rattle.packed_string.specs.declared.Mode.{Mode}
 use Rattle.packed_string.specs.declared.Mode.the-variants.{Crate, Standard}
 
--- Four 6-bit codes make three bytes, the first code highest: both are the digits of one 24-bit number.
+-- A group: four codes of six bits and three bytes are the digits, the highest first, of one and the same 24-bit number.
 unfoldable pub packGroup : List ℕ → List ℕ
 packGroup codes = digits 256 3 (fromDigits 64 codes)
 
 unfoldable pub unpackGroup : List ℕ → List ℕ
 unpackGroup bytes = digits 64 4 (fromDigits 256 bytes)
 
--- Crate mode: the character less 0x20, not below 0, the low six bits. Standard mode: the low six bits of a character 0x20 to 0x5F.
+-- The code of a character: crate mode takes 0x20 off, stopping at 0, and keeps six bits; standard mode just keeps six bits.
 abbrev pub codeOf : Mode → ℕ → ℕ
 codeOf Crate character = (character - 0x20) % 64
 codeOf Standard character = character % 64
 
--- Crate mode: reading adds 0x20. Standard mode: the code + 64 below 32, else the code.
+-- The character of a code: 0x20 more in crate mode; in standard mode 64 more where the code is below 32.
 abbrev pub charOf : Mode → ℕ → ℕ
 charOf Crate code = code + 0x20
 charOf Standard code = cond (ltb code 32) (code + 64) code
 
--- The last group is filled with spaces.
+-- Group g of a text, with spaces past its end, and of packed bytes.
 abbrev pub charsAt : List ℕ → ℕ → List ℕ
 charsAt text g = getD text (g * 4) 0x20 ∷ getD text (g * 4 + 1) 0x20 ∷ getD text (g * 4 + 2) 0x20 ∷ getD text (g * 4 + 3) 0x20 ∷ []
 
@@ -52,8 +52,7 @@ unpacked mode bytes (suc g) = unpacked mode bytes g ++ unpackedGroup mode bytes 
 abbrev pub groups : ℕ → ℕ
 groups n = (n + 3) / 4
 
--- Crate mode: only whole groups that fit are written, a left-over of one or two bytes is not read, and the count written is returned;
--- this mode refuses nothing.
+-- Crate mode packs the groups that fit whole, unpacks the whole groups that are there and fit, and refuses nothing.
 unfoldable pub cratePacked : List ℕ → List ℕ → Outcome
 cratePacked text buffer = wrote (packed Crate text (min (groups (length text)) (length buffer / 3))) buffer
 
@@ -65,14 +64,14 @@ unfoldable pub badPlace : List ℕ → ℕ
 badPlace [] = 0
 badPlace (c ∷ text) = cond (leb 0x20 c && leb c 0x5F) (suc (badPlace text)) 0
 
--- Standard mode: writing refuses 2 if not all groups fit, then 7 with the first place.
+-- Standard mode packs all or nothing: 2 for want of room comes before 7 for a character that has no code, at its place.
 unfoldable pub standardPacked : List ℕ → List ℕ → Outcome
 standardPacked text buffer =
     cond (ltb (length buffer / 3) (groups (length text))) (refuses 2 [] buffer)
     (cond (ltb (badPlace text) (length text)) (refuses 7 (badPlace text ∷ []) buffer)
     (wrote (packed Standard text (groups (length text))) buffer))
 
--- Standard mode: reading refuses 3 if the length is no multiple of 3, then 2 if not all groups fit.
+-- Standard mode unpacks all or nothing: 3 for a broken last group comes before 2 for want of room.
 unfoldable pub standardUnpacked : List ℕ → List ℕ → Outcome
 standardUnpacked bytes buffer =
     cond (not (eqb (length bytes % 3) 0)) (refuses 3 [] buffer)

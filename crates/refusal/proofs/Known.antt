@@ -19,7 +19,7 @@ use Rattle.refusal.specs.declared.Refusal.the-variants.{
 use Rattle.refusal.specs.declared.Written.{Written}
 use Rattle.refusal.specs.declared.Written.the-variants.{Count, Refused}
 use Rattle.refusal.specs.Table.{numberOf, valuesOf}
-use Rattle.refusal.specs.Outcome.{Reply, done, refused, Outcome, ends, replyOf}
+use Rattle.refusal.specs.Outcome.{Reply, done, Outcome, ends, replyOf}
 
 -- the refusal of a number and its values
 abbrev refusalOf : ℕ → List ℕ → Refusal

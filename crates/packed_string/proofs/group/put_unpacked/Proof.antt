@@ -1,9 +1,9 @@
 -- Four stores put the characters of the group.
-use Prim.Native.Nat.{_+_, _*_}
+use Prim.Native.Nat.{_*_}
 use native.Mathlib.Omega.{arith}
 use mathlib.Core.Path.{ap, _∙_}
 use mathlib.Core.List.{[], _∷_}
-use lib.ListN.{getD, length-set}
+use lib.ListN.{length-set}
 use borrow.Author.Needs.{needs}
 use Rattle.octets.specs.Put.{put}
 use Rattle.octets.proofs.Put.{stores-put}
