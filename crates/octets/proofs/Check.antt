@@ -4,8 +4,8 @@ use mathlib.Core.Path.{_≡_, refl, ap, _∙_}
 use mathlib.Core.List.{List, [], _∷_, _++_, foldl-append}
 use lib.ListN.{replicate}
 use lib.Bits.{bitXor, xor-lt, xor-zero-r}
+use Rattle.octets.specs.Digits.{Below}
 use Rattle.octets.specs.Check.{checkFrom}
-use Rattle.octets.proofs.Digits.{Below}
 
 pub check-append : (running : ℕ) (bs cs : List ℕ) → checkFrom running (bs ++ cs) ≡ checkFrom (checkFrom running bs) cs
 check-append = foldl-append bitXor

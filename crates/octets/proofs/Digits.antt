@@ -8,12 +8,7 @@ use lib.ListN.{length, getD, length-append}
 use lib.Seq.{append-snoc}
 use lib.Arith.{digits-lt, digits-div, digits-mod, mod-mul}
 use lib.Dec.{lit<}
-use Rattle.octets.specs.Digits.{digits, fromDigits}
-
--- each of a list's numbers is a digit in the base
-abbrev pub Below : ℕ → List ℕ → Type 0
-Below base [] = Unit {0}
-Below base (d ∷ ds) = (d < base) × Below base ds
+use Rattle.octets.specs.Digits.{Below, digits, fromDigits}
 
 pub below-at : (base : ℕ) (ds : List ℕ) → Below base ds → 0 < base → (i : ℕ) → getD ds i 0 < base
 below-at base [] h p i = p
@@ -71,7 +66,3 @@ more base count n (d ∷ ds) h =
 -- read, then written: the same digits
 pub digits-from : (base : ℕ) (ds : List ℕ) → Below base ds → digits base (length ds) (fromDigits base ds) ≡ ds
 digits-from base ds h = ap (λ (k : ℕ). digits base k (fromDigits base ds)) (sym (zero-add (length ds))) ∙ more base 0 0 ds h
-
--- a u32's three low bytes, as the code works them out
-pub bytes-of-24 : (n : ℕ) → (n / 65536 % 256) ∷ (n / 256 % 256) ∷ (n % 256) ∷ [] ≡ digits 256 3 n
-bytes-of-24 n = let e : n / 65536 % 256 ≡ n / 256 / 256 % 256 = omega arith in rw e

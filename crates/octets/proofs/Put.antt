@@ -52,22 +52,22 @@ module _ (l : List ℕ) (at : ℕ) (bs : List ℕ) where
       ap (take n) (ap (drop at) (append-assoc (take at l) bs (drop (at + length bs) l)) ∙ drop-at (take at l) (bs ++ drop (at + length bs) l) at (length-take-le at l (omega arith)))
       ∙ take-at bs (drop (at + length bs) l) n e
 
-pub set-put : (l : List ℕ) (i v : ℕ) → i < length l → set l i v ≡ put l i (v ∷ [])
-set-put l i v h =
+pub set-is-put : (l : List ℕ) (i v : ℕ) → i < length l → set l i v ≡ put l i (v ∷ [])
+set-is-put l i v h =
     set-split l i v h
     ∙ sym (append-snoc (take i l) v (drop (suc i) l))
     ∙ ap (λ (k : ℕ). take i l ++ (v ∷ []) ++ drop k l) (sym (add-one i))
 
 -- a store right behind a part
-pub put-set : (l : List ℕ) (at : ℕ) (bs : List ℕ) (v k : ℕ) → k < length l → at + length bs ≡ k → set (put l at bs) k v ≡ put l at (bs ++ (v ∷ []))
-put-set l at bs v k h e =
+pub put-snoc : (l : List ℕ) (at : ℕ) (bs : List ℕ) (v k : ℕ) → k < length l → at + length bs ≡ k → set (put l at bs) k v ≡ put l at (bs ++ (v ∷ []))
+put-snoc l at bs v k h e =
     let f : at + length bs ≤ length l = omega arith in
-    set-put (put l at bs) k v (omega (arith, length-put l at bs f)) ∙ put-put l at bs (v ∷ []) k f e
+    set-is-put (put l at bs) k v (omega (arith, length-put l at bs f)) ∙ put-put l at bs (v ∷ []) k f e
 
 -- a turn of a loop that puts one byte: behind `bs`, i of them, the byte makes `cs`
 pub put-turn : (l : List ℕ) (at i : ℕ) (bs : List ℕ) (v : ℕ) {b cs : List ℕ} → b ≡ put l at bs → length bs ≡ i → at + i < length l → cs ≡ bs ++ (v ∷ []) → set b (at + i) v ≡ put l at cs
 put-turn l at i bs v {b} {cs} e n h f =
-    ap (λ (r : List ℕ). set r (at + i) v) e ∙ put-set l at bs v (at + i) h (ap (λ (k : ℕ). at + k) n) ∙ sym (ap (put l at) f)
+    ap (λ (r : List ℕ). set r (at + i) v) e ∙ put-snoc l at bs v (at + i) h (ap (λ (k : ℕ). at + k) n) ∙ sym (ap (put l at) f)
 
 -- a turn of a loop that puts a part at the place k that it has reached
 pub put-more : (l bs cs : List ℕ) (k : ℕ) {b d ds : List ℕ} → b ≡ put l 0 bs → d ≡ put b k cs → length bs ≡ k → k ≤ length l → ds ≡ bs ++ cs → d ≡ put l 0 ds
@@ -82,12 +82,12 @@ stores l at k (v ∷ vs) = stores (set l (at + k) v) at (suc k) vs
 stores-behind : (vs l : List ℕ) (at : ℕ) (bs : List ℕ) (k : ℕ) → length bs ≡ k → at + k + length vs ≤ length l → stores (put l at bs) at k vs ≡ put l at (bs ++ vs)
 stores-behind [] l at bs k e h = ap (put l at) (sym (append-nil bs))
 stores-behind (v ∷ vs) l at bs k e h =
-    ap (λ (q : List ℕ). stores q at (suc k) vs) (put-set l at bs v (at + k) (omega arith) (ap (λ (m : ℕ). at + m) e))
+    ap (λ (q : List ℕ). stores q at (suc k) vs) (put-snoc l at bs v (at + k) (omega arith) (ap (λ (m : ℕ). at + m) e))
     ∙ stores-behind vs l at (bs ++ (v ∷ [])) (suc k) (omega (arith, length-append bs (v ∷ []))) (omega arith)
     ∙ ap (put l at) (append-snoc bs v vs)
 
 pub stores-put : (l : List ℕ) (at v : ℕ) (vs : List ℕ) → at + 1 + length vs ≤ length l → stores (set l at v) at 1 vs ≡ put l at (v ∷ vs)
-stores-put l at v vs h = ap (λ (q : List ℕ). stores q at 1 vs) (set-put l at v (omega arith)) ∙ stores-behind vs l at (v ∷ []) 1 refl h
+stores-put l at v vs h = ap (λ (q : List ℕ). stores q at 1 vs) (set-is-put l at v (omega arith)) ∙ stores-behind vs l at (v ∷ []) 1 refl h
 
 -- the answer and the buffer of a call that put `bs` at the front and counted them
 pub put-wrote : (l bs : List ℕ) {b : List ℕ} {n : ℕ} → b ≡ put l 0 bs → n ≡ length bs → ends (done (n ∷ [])) b ≡ wrote bs l

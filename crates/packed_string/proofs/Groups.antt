@@ -5,8 +5,8 @@ use mathlib.Core.Path.{_≡_, refl, ap, _∙_}
 use mathlib.Core.List.{List, [], _∷_, _++_, map}
 use lib.ListN.{length, getD, length-append}
 use lib.Dec.{lit<}
-use Rattle.octets.specs.Digits.{fromDigits, digits}
-use Rattle.octets.proofs.Digits.{Below, below-at, digits-below, from-digits-whole, from-below, digits-from}
+use Rattle.octets.specs.Digits.{Below, fromDigits, digits}
+use Rattle.octets.proofs.Digits.{below-at, digits-below, from-digits-whole, from-below, digits-from}
 use Rattle.packed_string.specs.declared.Mode.{Mode}
 use Rattle.packed_string.specs.declared.Mode.the-variants.{Crate, Standard}
 use Rattle.packed_string.specs.Text.{codeOf, charOf, charsAt, bytesAt, packGroup, unpackGroup, packedGroup, unpackedGroup, packed, unpacked}
@@ -91,9 +91,3 @@ module _ (m : Mode) (s : List ℕ) where
   unfolding unpacked unpackGroup
   length-unpacked zero = refl
   length-unpacked (suc g) = omega (arith, length-append (unpacked m s g) (unpackedGroup m s g), length-unpacked g)
-
--- within a list the default is of no use
-pub getD-any : (s : List ℕ) (i d e : ℕ) → i < length s → getD s i d ≡ getD s i e
-getD-any [] i d e h = absurd (omega arith)
-getD-any (x ∷ s) zero d e h = refl
-getD-any (x ∷ s) (suc i) d e h = getD-any s i d e (omega arith)

@@ -12,7 +12,8 @@ use lib.Dec.{ltb, lit<}
 use borrow.Author.Tests.{ltb-true, ltb-false}
 use Rattle.refusal.specs.Outcome.{ends, done, wrote}
 use Rattle.octets.specs.Put.{put}
-use Rattle.octets.proofs.Digits.{Below, below-at}
+use Rattle.octets.specs.Digits.{Below}
+use Rattle.octets.proofs.Digits.{below-at}
 use Rattle.octets.proofs.Put.{length-put, put-nil, put-more, put-wrote, stores-put}
 use Rattle.packed_string.specs.declared.Mode.the-variants.{Crate}
 use Rattle.packed_string.specs.Text.{codeOf, charOf, packGroup, unpackGroup, packedGroup, unpackedGroup, packed, unpacked, groups, cratePacked, crateUnpacked}
@@ -58,7 +59,7 @@ module _ (size : ℕ)
           ∙ more _ put-here (omega (arith, same))
           ∙ ap (λ (k : ℕ). wrote (run (min k (length dst / size))) dst) count
 
-  pub loop-from-start : (turns : ℕ) (dst : List ℕ) → run 0 ≡ [] → groupLoop size store turns 0 0 dst ≡ wrote (run (min turns (length dst / size))) dst
+  loop-from-start : (turns : ℕ) (dst : List ℕ) → run 0 ≡ [] → groupLoop size store turns 0 0 dst ≡ wrote (run (min turns (length dst / size))) dst
   loop-from-start turns dst none =
       let start : dst ≡ put dst 0 (run 0) = sym (ap (put dst 0) none ∙ put-nil dst 0) in
       ap (λ (k : ℕ). groupLoop size store turns 0 k dst) (sym (zero-mul size))

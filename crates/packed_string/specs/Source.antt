@@ -1,5 +1,5 @@
--- packed_string.rs as it stands: `encode_packed` and `decode_packed`, a definition to a line, with the Rust's own operators. No call of
--- either stops in a debug build: no sum passes a slice's length, and a code below 64 takes 0x20 more.
+-- packed_string.rs written down: its two functions with the Rust's own operators and names, in its order, to be held beside it. Neither
+-- stops a debug build on any input: its indexes and sums stay within the slices, and a code is below 64 when 0x20 is added.
 use Prim.Native.Nat.{ℕ, zero, suc, _+_, _*_, _-_, _/_, _%_, _^_}
 use mathlib.Core.Bool.{cond}
 use mathlib.Core.List.{List, [], _∷_}
@@ -8,11 +8,11 @@ use lib.Bits.{bitAnd, bitOr}
 use lib.Dec.{ltb}
 use Rattle.refusal.specs.Outcome.{Outcome, ends, done}
 
--- `a.div_ceil(b)`
+-- `div_ceil`
 abbrev pub divCeil : ℕ → ℕ → ℕ
 divCeil a b = cond (ltb 0 (a % b)) (a / b + 1) (a / b)
 
--- `x << k` and `x >> k` on a u16, and `x as u8`
+-- `<<` and `>>` of a u16, and `as u8`
 abbrev pub shiftLeft : ℕ → ℕ → ℕ
 shiftLeft x k = x * 2 ^ k % 2 ^ 16
 
@@ -22,13 +22,13 @@ shiftRight x k = x / 2 ^ k
 abbrev pub asU8 : ℕ → ℕ
 asU8 x = x % 2 ^ 8
 
--- the loop of both: for each g of so many turns, `if written + size > dst.len() { break; }`, the stores, `written += size`
+-- the loop that both have, over g: it is left before a group, of `size` bytes, that would pass the end of `dst`
 abbrev pub groupLoop : ℕ → (ℕ → ℕ → List ℕ → List ℕ) → ℕ → ℕ → ℕ → List ℕ → Outcome
 groupLoop size store zero g written dst = ends (done (written ∷ [])) dst
 groupLoop size store (suc turns) g written dst =
     cond (ltb (length dst) (written + size)) (ends (done (written ∷ [])) dst) (groupLoop size store turns (suc g) (written + size) (store g written dst))
 
--- `src.get(i).copied().unwrap_or(b' ').saturating_sub(0x20) & 0x3F`
+-- a character, or a space past the end, by `saturating_sub` and `&`
 abbrev pub sourceCode : List ℕ → ℕ → ℕ
 sourceCode src i = bitAnd (getD src i 0x20 - 0x20) 0x3F
 
