@@ -1,4 +1,4 @@
--- Every example marked (P) in document 01 comes out as it says: one statement over the list of specs/Paper.antt, by computing.
+-- Each example of the list of specs/Paper.antt comes out as document 01 says: one statement over the list, by computing.
 use mathlib.Core.Path.{_≡_, refl}
 use mathlib.Core.List.{map}
 use Rattle.packed_string.specs.Text.{packGroup, unpackGroup, packed, unpacked, badPlace, cratePacked, crateUnpacked, standardPacked}

@@ -1,11 +1,12 @@
--- Document 01, 'Examples': those marked (P), as one list. Each has what the definitions make of it and what document 01 says.
+-- Document 01, 'Examples': those marked (P), as one list that grows with the parts that are built; here, packed text. Each has what the
+-- definitions make of it and what document 01 says.
 use Prim.Native.Nat.{ℕ}
 use mathlib.Core.List.{List, [], _∷_}
 use lib.ListN.{replicate}
 use Rattle.refusal.specs.Outcome.{Outcome, ends, done, refused}
 use Rattle.packed_string.specs.Text.{cratePacked, crateUnpacked, standardPacked}
 
--- what an example shows
+-- What an example shows. Frames and answers will join outcomes here, so that the list stays one.
 pub data Shown : Type 0 where
   outcome : Outcome → Shown
 

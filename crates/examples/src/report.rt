@@ -108,10 +108,10 @@ pub(crate) fn came_out(
     right
 }
 
-pub(crate) fn close(right: bool) {
+pub(crate) fn print_verdict(right: bool) {
     if right {
-        print(b"every example came out as document 01 says\n");
+        print(b"every example here came out as document 01 says\n");
     } else {
-        print(b"SOME EXAMPLE CAME OUT OTHERWISE THAN DOCUMENT 01 SAYS\n");
+        print(b"SOME EXAMPLE HERE CAME OUT OTHERWISE THAN DOCUMENT 01 SAYS\n");
     }
 }

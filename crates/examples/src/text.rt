@@ -17,7 +17,7 @@ fn count(n: usize) -> Answer {
     }
 }
 
-fn refusal(number: u32, value: usize) -> Answer {
+fn refused(number: u32, value: usize) -> Answer {
     Answer { number, value }
 }
 
@@ -85,7 +85,8 @@ fn writes_crate() -> bool {
     let e = example(call, b"TESTS", 5, count(3), b"\xD2\x5C\xF4\xEE\xEE");
     let f = example(call, b"", 3, count(0), b"\xEE\xEE\xEE");
     let g = example(call, b"a", 3, count(3), b"\x04\x00\x00");
-    a & b & c & d & e & f & g
+    let h = example(call, b"\x1F\x60\xFF", 3, count(3), b"\x00\x07\xC0");
+    a & b & c & d & e & f & g & h
 }
 
 fn reads_crate() -> bool {
@@ -120,43 +121,46 @@ pub(crate) fn crate_mode() -> bool {
 fn writes_standard() -> bool {
     let call = Call::EncodeStandard;
     let a = example(call, b"TEST", 3, count(3), b"\x50\x54\xD4");
-    let b = example(call, b"a", 3, refusal(7, 0), b"\xEE\xEE\xEE");
-    let c = example(call, b"TaST", 2, refusal(2, 0), b"\xEE\xEE");
+    let b = example(call, b"a", 3, refused(7, 0), b"\xEE\xEE\xEE");
+    let c = example(call, b"TaST", 2, refused(2, 0), b"\xEE\xEE");
     let d = example(
         call,
         b"TESTa",
         6,
-        refusal(7, 4),
+        refused(7, 4),
         b"\xEE\xEE\xEE\xEE\xEE\xEE",
     );
     let e = example(call, b"TESTS", 7, count(6), b"\x50\x54\xD4\x4E\x08\x20\xEE");
     let f = example(call, b"", 0, count(0), b"");
-    a & b & c & d & e & f
+    let g = example(call, b"", 2, count(0), b"\xEE\xEE");
+    a & b & c & d & e & f & g
 }
 
 // The first and the last character that have a code, and their neighbours.
 fn bounds_standard() -> bool {
     let call = Call::EncodeStandard;
     let a = example(call, b"\x20\x5F\x5F\x20", 3, count(3), b"\x81\xF7\xE0");
-    let b = example(call, b"\x20\x1F", 3, refusal(7, 1), b"\xEE\xEE\xEE");
-    let c = example(call, b"\x60", 3, refusal(7, 0), b"\xEE\xEE\xEE");
+    let b = example(call, b"\x20\x1F", 3, refused(7, 1), b"\xEE\xEE\xEE");
+    let c = example(call, b"\x60", 3, refused(7, 0), b"\xEE\xEE\xEE");
     a & b & c
 }
 
 fn reads_standard() -> bool {
     let call = Call::DecodeStandard;
     let a = example(call, b"\x50\x54\xD4", 4, count(4), b"TEST");
-    let b = example(
+    let b = example(call, b"\x81\xF7\xE0", 5, count(4), b"\x20\x5F\x5F\x20\xEE");
+    let c = example(call, b"\x50", 4, refused(3, 0), b"\xEE\xEE\xEE\xEE");
+    let d = example(
         call,
-        b"\x50\x54\xD4\x00",
-        4,
-        refusal(3, 0),
-        b"\xEE\xEE\xEE\xEE",
+        b"\x50\x54\xD4\x00\x00",
+        8,
+        refused(3, 0),
+        b"\xEE\xEE\xEE\xEE\xEE\xEE\xEE\xEE",
     );
-    let c = example(call, b"\x50\x54\xD4\x00", 0, refusal(3, 0), b"");
-    let d = example(call, b"\x50\x54\xD4", 3, refusal(2, 0), b"\xEE\xEE\xEE");
-    let e = example(call, b"", 0, count(0), b"");
-    a & b & c & d & e
+    let e = example(call, b"\x50\x54\xD4\x00", 0, refused(3, 0), b"");
+    let f = example(call, b"\x50\x54\xD4", 3, refused(2, 0), b"\xEE\xEE\xEE");
+    let g = example(call, b"", 1, count(0), b"\xEE");
+    a & b & c & d & e & f & g
 }
 
 pub(crate) fn standard_mode() -> bool {

@@ -1,14 +1,16 @@
--- The first character that the standard has no code for: a scan for it, and that there is one exactly where a text is not plain.
-use Prim.Native.Nat.{ℕ, suc, _≤_, _<_}
+-- The first character that standard mode has no code for: a scan for it, that it is the first, where it is in two texts joined, and that
+-- there is none exactly where a text is plain.
+use Prim.Native.Nat.{ℕ, zero, suc, _+_, _≤_, _<_}
+use native.Mathlib.Nat.{zero-add, suc-add}
 use native.Mathlib.Omega.{arith}
-use mathlib.Core.Path.{_≡_, refl, ap, _∙_}
+use mathlib.Core.Path.{_≡_, refl, sym, ap, _∙_}
 use mathlib.Core.Bool.{Bool, true, false, cond, _&&_}
-use mathlib.Core.List.{List, [], _∷_}
+use mathlib.Core.List.{List, [], _∷_, _++_}
 use lib.ListN.{length, drop, getD, drop-of-length-le}
 use lib.Seq.{drop-cons}
 use lib.Dec.{leb}
-use borrow.Author.Tests.{le-leb, lt-leb, leb-true}
-use Rattle.packed_string.specs.Text.{badPlace, Plain}
+use borrow.Author.Tests.{le-leb, lt-leb, leb-true, leb-false}
+use Rattle.packed_string.specs.Text.{badPlace, Coded, Plain}
 
 module _ (c : ℕ) (s : List ℕ) where
   below-is-bad : c < 0x20 → badPlace (c ∷ s) ≡ 0
@@ -40,6 +42,46 @@ module _ (s : List ℕ) (i : ℕ) (h : i < length s) where
 pub bad-end : (s : List ℕ) (i : ℕ) → length s ≤ i → badPlace (drop i s) ≡ 0
 unfolding badPlace
 bad-end s i h = ap badPlace (drop-of-length-le s h)
+
+-- it is the first: the character there has no code, and each one before it has
+outside : (c : ℕ) (t u : Bool) → leb 0x20 c ≡ t → leb c 0x5F ≡ u → t && u ≡ false → Coded c → ⊥
+outside c true true et eu e k = let z : _≡_ {A = ℕ} 0 1 = cc in omega arith
+outside c true false et eu e k = omega (arith, leb-false c 0x5F eu, k .1)
+outside c false u et eu e k = omega (arith, leb-false 0x20 c et, k .0)
+
+pub place-outside : (s : List ℕ) → badPlace s < length s → Coded (getD s (badPlace s) 0) → ⊥
+unfolding badPlace
+place-outside [] h k = omega arith
+place-outside (c ∷ s) h k = by (place-outside s) (leb 0x20 c && leb c 0x5F) refl h k
+  where
+    by : (badPlace s < length s → Coded (getD s (badPlace s) 0) → ⊥) → (t : Bool) → leb 0x20 c && leb c 0x5F ≡ t → cond t (suc (badPlace s)) 0 < suc (length s) → Coded (getD (c ∷ s) (cond t (suc (badPlace s)) 0) 0) → ⊥
+    by more true e q r = more (omega arith) r
+    by more false e q r = outside c (leb 0x20 c) (leb c 0x5F) refl refl e r
+
+pub before-coded : (s : List ℕ) (i : ℕ) → i < badPlace s → Coded (getD s i 0)
+unfolding badPlace
+before-coded [] i h = absurd (omega arith)
+before-coded (c ∷ s) i h = by (before-coded s) (leb 0x20 c) (leb c 0x5F) refl refl i h
+  where
+    by : ((i : ℕ) → i < badPlace s → Coded (getD s i 0)) → (t u : Bool) → leb 0x20 c ≡ t → leb c 0x5F ≡ u → (i : ℕ) → i < cond (t && u) (suc (badPlace s)) 0 → Coded (getD (c ∷ s) i 0)
+    by more true true et eu zero q = (leb-true 0x20 c et, leb-true c 0x5F eu)
+    by more true true et eu (suc i) q = more i (omega arith)
+    by more true false et eu i q = absurd (omega arith)
+    by more false u et eu i q = absurd (omega arith)
+
+-- of two texts, one behind the other: the first's, or past it the second's
+pub bad-append-first : (s t : List ℕ) → badPlace s < length s → badPlace (s ++ t) ≡ badPlace s
+unfolding badPlace
+bad-append-first [] t h = absurd (omega arith)
+bad-append-first (c ∷ s) t h = by (bad-append-first s t) (leb 0x20 c && leb c 0x5F) h
+  where
+    by : (badPlace s < length s → badPlace (s ++ t) ≡ badPlace s) → (u : Bool) → cond u (suc (badPlace s)) 0 < suc (length s) → cond u (suc (badPlace (s ++ t))) 0 ≡ cond u (suc (badPlace s)) 0
+    by more true q = ap suc (more (omega arith))
+    by more false q = refl
+
+pub bad-append-second : (s t : List ℕ) → Plain s → badPlace (s ++ t) ≡ length s + badPlace t
+bad-append-second [] t p = sym (zero-add (badPlace t))
+bad-append-second (c ∷ s) t p = between-is-good c (s ++ t) (p .0 .0) (p .0 .1) ∙ ap suc (bad-append-second s t (p .1)) ∙ sym (suc-add (length s) (badPlace t))
 
 pub plain-place : (s : List ℕ) → Plain s → badPlace s ≡ length s
 unfolding badPlace

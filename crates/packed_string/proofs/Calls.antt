@@ -13,13 +13,13 @@ module _ (text buffer : List ℕ) where
   unfolding cratePacked
   crate-packs e = ap (λ (k : ℕ). wrote (packed Crate text k) buffer) e
 
-  pub standard-no-room : length buffer / 3 < groups (length text) → standardPacked text buffer ≡ refuses 2 [] buffer
+  pub standard-packs-no-room : length buffer / 3 < groups (length text) → standardPacked text buffer ≡ refuses 2 [] buffer
   unfolding standardPacked
-  standard-no-room h = rw (lt-ltb (length buffer / 3) (groups (length text)) h)
+  standard-packs-no-room h = rw (lt-ltb (length buffer / 3) (groups (length text)) h)
 
-  pub standard-bad : groups (length text) ≤ length buffer / 3 → badPlace text < length text → standardPacked text buffer ≡ refuses 7 (badPlace text ∷ []) buffer
+  pub standard-packs-bad : groups (length text) ≤ length buffer / 3 → badPlace text < length text → standardPacked text buffer ≡ refuses 7 (badPlace text ∷ []) buffer
   unfolding standardPacked
-  standard-bad h k = rw (le-ltb (length buffer / 3) (groups (length text)) h, lt-ltb (badPlace text) (length text) k)
+  standard-packs-bad h k = rw (le-ltb (length buffer / 3) (groups (length text)) h, lt-ltb (badPlace text) (length text) k)
 
   pub standard-packs : groups (length text) ≤ length buffer / 3 → length text ≤ badPlace text → standardPacked text buffer ≡ wrote (packed Standard text (groups (length text))) buffer
   unfolding standardPacked
@@ -30,13 +30,13 @@ module _ (bytes buffer : List ℕ) where
   unfolding crateUnpacked
   crate-unpacks e = ap (λ (k : ℕ). wrote (unpacked Crate bytes k) buffer) e
 
-  pub standard-left-over : (length bytes % 3 ≡ 0 → ⊥) → standardUnpacked bytes buffer ≡ refuses 3 [] buffer
+  pub standard-unpacks-left-over : (length bytes % 3 ≡ 0 → ⊥) → standardUnpacked bytes buffer ≡ refuses 3 [] buffer
   unfolding standardUnpacked
-  standard-left-over h = rw (ne-eqb (length bytes % 3) 0 h)
+  standard-unpacks-left-over h = rw (ne-eqb (length bytes % 3) 0 h)
 
-  pub standard-no-room-back : length bytes % 3 ≡ 0 → length buffer / 4 < length bytes / 3 → standardUnpacked bytes buffer ≡ refuses 2 [] buffer
+  pub standard-unpacks-no-room : length bytes % 3 ≡ 0 → length buffer / 4 < length bytes / 3 → standardUnpacked bytes buffer ≡ refuses 2 [] buffer
   unfolding standardUnpacked
-  standard-no-room-back e h = rw (eq-eqb (length bytes % 3) 0 e, lt-ltb (length buffer / 4) (length bytes / 3) h)
+  standard-unpacks-no-room e h = rw (eq-eqb (length bytes % 3) 0 e, lt-ltb (length buffer / 4) (length bytes / 3) h)
 
   pub standard-unpacks : length bytes % 3 ≡ 0 → length bytes / 3 ≤ length buffer / 4 → standardUnpacked bytes buffer ≡ wrote (unpacked Standard bytes (length bytes / 3)) buffer
   unfolding standardUnpacked

@@ -31,6 +31,7 @@ use Rattle.packed_string.specs.Text.{
   standardUnpacked,
   readBack,
   filled,
+  Coded,
   Plain,
 }
 use Rattle.packed_string.proofs.Groups.{code-below, group-back, packed-suc, length-packed, unpacked-zero, unpacked-suc}
@@ -46,9 +47,9 @@ bytes-behind p g x y z rest e =
     rw (first, at 1, at 2)
 
 -- the characters of the first groups, the last one filled
-abbrev shown : List ℕ → ℕ → List ℕ
-shown text zero = []
-shown text (suc g) = shown text g ++ charsAt text g
+abbrev characters : List ℕ → ℕ → List ℕ
+characters text zero = []
+characters text (suc g) = characters text g ++ charsAt text g
 
 module _ (m : Mode) (text : List ℕ) where
   group-read : (p rest : List ℕ) (g : ℕ) → length p ≡ g * 3 → unpackedGroup m (p ++ (packedGroup m text g ++ rest)) g ≡ map (readBack m) (charsAt text g)
@@ -59,7 +60,7 @@ module _ (m : Mode) (text : List ℕ) where
       ∙ ap (map (charOf m)) (group-back (code (g * 4)) (code (g * 4 + 1)) (code (g * 4 + 2)) (code (g * 4 + 3)) (code-below m _) (code-below m _) (code-below m _) (code-below m _))
 
   -- whatever stands behind them, the first groups read back
-  pub groups-back : (g : ℕ) (rest : List ℕ) → unpacked m (packed m text g ++ rest) g ≡ map (readBack m) (shown text g)
+  pub groups-back : (g : ℕ) (rest : List ℕ) → unpacked m (packed m text g ++ rest) g ≡ map (readBack m) (characters text g)
   groups-back zero rest = unpacked-zero m (packed m text 0 ++ rest)
   groups-back (suc g) rest =
       let p = packed m text g in
@@ -67,7 +68,7 @@ module _ (m : Mode) (text : List ℕ) where
       ap (λ (l : List ℕ). unpacked m l (suc g)) (ap (λ (l : List ℕ). l ++ rest) (packed-suc m text g) ∙ append-assoc p q rest)
       ∙ unpacked-suc m (p ++ (q ++ rest)) g
       ∙ ap₂ _++_ (groups-back g (q ++ rest)) (group-read p rest g (length-packed m text g))
-      ∙ sym (map-append (readBack m) (shown text g) (charsAt text g))
+      ∙ sym (map-append (readBack m) (characters text g) (charsAt text g))
 
 -- past the end of a text stands a space, whether or not spaces were put there
 getD-spaces : (k i : ℕ) → getD {A = ℕ} (replicate k 0x20) i 0x20 ≡ 0x20
@@ -80,37 +81,37 @@ getD-filled [] k i = getD-spaces k i
 getD-filled (c ∷ text) k zero = refl
 getD-filled (c ∷ text) k (suc i) = getD-filled text k i
 
-four : (l : List ℕ) (n : ℕ) → n + 4 ≤ length l → take 4 (drop n l) ≡ getD l n 0x20 ∷ getD l (n + 1) 0x20 ∷ getD l (n + 2) 0x20 ∷ getD l (n + 3) 0x20 ∷ []
-four l n h =
+four-of : (l : List ℕ) (n : ℕ) → n + 4 ≤ length l → take 4 (drop n l) ≡ getD l n 0x20 ∷ getD l (n + 1) 0x20 ∷ getD l (n + 2) 0x20 ∷ getD l (n + 3) 0x20 ∷ []
+four-of l n h =
     let e1 : n + 1 ≡ suc n = omega arith in
     let e2 : n + 2 ≡ suc (suc n) = omega arith in
     let e3 : n + 3 ≡ suc (suc (suc n)) = omega arith in
     rw (e1, e2, e3, drop-cons l n 0x20 (omega arith), drop-cons l (suc n) 0x20 (omega arith), drop-cons l (suc (suc n)) 0x20 (omega arith), drop-cons l (suc (suc (suc n))) 0x20 (omega arith))
 
-shown-take : (text : List ℕ) (k g : ℕ) → g * 4 ≤ length (text ++ replicate k 0x20) → shown text g ≡ take (g * 4) (text ++ replicate k 0x20)
-shown-take text k zero h = refl
-shown-take text k (suc g) h =
+characters-take : (text : List ℕ) (k g : ℕ) → g * 4 ≤ length (text ++ replicate k 0x20) → characters text g ≡ take (g * 4) (text ++ replicate k 0x20)
+characters-take text k zero h = refl
+characters-take text k (suc g) h =
     let l = text ++ replicate k 0x20 in
     let e : suc g * 4 ≡ g * 4 + 4 = omega arith in
-    let chars : charsAt text g ≡ take 4 (drop (g * 4) l) = sym (four l (g * 4) (omega arith) ∙ rw (getD-filled text k (g * 4), getD-filled text k (g * 4 + 1), getD-filled text k (g * 4 + 2), getD-filled text k (g * 4 + 3))) in
-    ap₂ _++_ (shown-take text k g (omega arith)) chars ∙ sym (ap (λ (i : ℕ). take i l) e ∙ take-add (g * 4) 4 l)
+    let chars : charsAt text g ≡ take 4 (drop (g * 4) l) = sym (four-of l (g * 4) (omega arith) ∙ rw (getD-filled text k (g * 4), getD-filled text k (g * 4 + 1), getD-filled text k (g * 4 + 2), getD-filled text k (g * 4 + 3))) in
+    ap₂ _++_ (characters-take text k g (omega arith)) chars ∙ sym (ap (λ (i : ℕ). take i l) e ∙ take-add (g * 4) 4 l)
 
 pub length-filled : (text : List ℕ) → length (filled text) ≡ groups (length text) * 4
 length-filled text =
     let k = groups (length text) * 4 - length text in
     omega (arith, length-append text (replicate k 0x20), length-replicate {A = ℕ} k 0x20)
 
-shown-filled : (text : List ℕ) → shown text (groups (length text)) ≡ filled text
-shown-filled text =
+characters-filled : (text : List ℕ) → characters text (groups (length text)) ≡ filled text
+characters-filled text =
     let n = groups (length text) * 4 in
     let e : length (filled text) ≡ n = length-filled text in
-    shown-take text (n - length text) (groups (length text)) (omega arith) ∙ take-all n (filled text) (omega arith)
+    characters-take text (n - length text) (groups (length text)) (omega arith) ∙ take-all n (filled text) (omega arith)
 
 -- a whole text, written and read
 pub text-back : (m : Mode) (text : List ℕ) → let g = groups (length text) in unpacked m (packed m text g) g ≡ map (readBack m) (filled text)
 text-back m text =
     let g = groups (length text) in
-    ap (λ (l : List ℕ). unpacked m l g) (sym (append-nil (packed m text g))) ∙ groups-back m text g [] ∙ ap (map (readBack m)) (shown-filled text)
+    ap (λ (l : List ℕ). unpacked m l g) (sym (append-nil (packed m text g))) ∙ groups-back m text g [] ∙ ap (map (readBack m)) (characters-filled text)
 
 -- a character of 0x20 to 0x5F reads back as itself
 standard-back : (c : ℕ) (t : Bool) → 0x20 ≤ c → c ≤ 0x5F → ltb (c % 64) 32 ≡ t → cond t (c % 64 + 64) (c % 64) ≡ c
@@ -120,6 +121,15 @@ standard-back c false l h e = omega (arith, ltb-false (c % 64) 32 e)
 pub character-back : (m : Mode) (c : ℕ) → 0x20 ≤ c → c ≤ 0x5F → readBack m c ≡ c
 character-back Crate c l h = omega arith
 character-back Standard c l h = standard-back c (ltb (c % 64) 32) l h refl
+
+-- and whatever was written reads as such a character: any other comes back as another
+pub back-coded : (m : Mode) (c : ℕ) → Coded (readBack m c)
+back-coded Crate c = omega arith
+back-coded Standard c = by (ltb (c % 64) 32) refl
+  where
+    by : (t : Bool) → ltb (c % 64) 32 ≡ t → Coded (cond t (c % 64 + 64) (c % 64))
+    by true e = omega (arith, ltb-true (c % 64) 32 e)
+    by false e = omega (arith, ltb-false (c % 64) 32 e)
 
 pub plain-back : (m : Mode) (text : List ℕ) → Plain text → map (readBack m) text ≡ text
 plain-back m [] p = refl

@@ -1,89 +1,124 @@
--- packed_string.rs does what document 01 says of the crate's mode: its lines (specs/Source.antt) and the definitions of specs/Text.antt
--- come to the same outcome, on every call.
+-- packed_string.rs never stops, and does what document 01 says of the crate's mode: on every call its lines (specs/Source.antt) come to
+-- the outcome that specs/Text.antt gives.
 use Prim.Native.Nat.{ℕ, zero, suc, _+_, _*_, _-_, _/_, _%_, _^_, _≤_, _<_, min}
-use native.Mathlib.Nat.{add-zero, zero-mul, suc-mul, min-eq-left, mod-eq-of-lt, le-div-iff-mul-le, div-lt-iff-lt-mul}
+use native.Mathlib.Nat.{zero-mul, suc-mul, mod-eq-of-lt, le-div-iff-mul-le, div-lt-iff-lt-mul}
 use native.Mathlib.Omega.{arith}
 use mathlib.Core.Path.{_≡_, refl, sym, ap, _∙_}
 use mathlib.Core.Bool.{Bool, true, false, cond}
 use mathlib.Core.List.{List, [], _∷_, _++_, map}
-use lib.ListN.{length, getD}
+use lib.ListN.{length, getD, set, length-set}
 use lib.Bits.{bitAnd, bitOr, and-mask, or-shifted}
 use lib.Dec.{ltb, lit<}
-use borrow.Author.Tests.{ltb-true, ltb-false}
+use borrow.Author.Tests.{ltb-true, ltb-false, lt-ltb}
 use Rattle.refusal.specs.Outcome.{ends, done, wrote}
-use Rattle.octets.specs.Put.{put}
 use Rattle.octets.specs.Digits.{Below}
+use Rattle.octets.specs.Put.{put}
 use Rattle.octets.proofs.Digits.{below-at}
 use Rattle.octets.proofs.Put.{length-put, put-nil, put-more, put-wrote, stores-put}
 use Rattle.packed_string.specs.declared.Mode.the-variants.{Crate}
 use Rattle.packed_string.specs.Text.{codeOf, charOf, packGroup, unpackGroup, packedGroup, unpackedGroup, packed, unpacked, groups, cratePacked, crateUnpacked}
-use Rattle.packed_string.specs.Source.{divCeil, shiftLeft, shiftRight, asU8, sourceCode, storeBytes, storeChars, groupLoop, sourceEncoded, sourceDecoded}
+use Rattle.packed_string.specs.Source.{Run, comes, divCeil, shiftLeft, shiftRight, asU8, groupLoop, sourceCode, storeBytes, encodeTurn, sourceEncoded, storeChars, decodeGroup, decodeTurn, sourceDecoded}
 use Rattle.packed_string.proofs.Groups.{code-below, pack-group, unpack-group, packed-zero, packed-suc, length-packed, unpacked-zero, unpacked-suc, length-unpacked}
 use Rattle.packed_string.proofs.Calls.{crate-packs, crate-unpacks}
 
--- The loop, for groups of any size: it writes as many as there are, or as fit.
+-- The loop, for groups of any size, of which there are n: it writes as many as there are, or as fit.
 module _ (size : ℕ)
     (positive : 0 < size)
-    (store : ℕ → ℕ → List ℕ → List ℕ)
+    (n : ℕ)
+    (turn : ℕ → ℕ → List ℕ → (List ℕ → Run) → Run)
     (group : ℕ → List ℕ)
     (run : ℕ → List ℕ)
     (run-suc : (g : ℕ) → run (suc g) ≡ run g ++ group g)
     (length-run : (g : ℕ) → length (run g) ≡ g * size)
-    (stored : (g : ℕ) (dst : List ℕ) → g * size + size ≤ length dst → store g (g * size) dst ≡ put dst (g * size) (group g)) where
-  loop-comes : (turns g : ℕ) (dst d : List ℕ) → d ≡ put dst 0 (run g) → g * size ≤ length dst
-      → groupLoop size store turns g (g * size) d ≡ wrote (run (min (g + turns) (length dst / size))) dst
-  loop-comes zero g dst d e h =
+    (turned : (g : ℕ) (dst : List ℕ) (rest : List ℕ → Run) → g < n → g * size + size ≤ length dst → turn g (g * size) dst rest ≡ rest (put dst (g * size) (group g))) where
+  loop-comes : (turns g : ℕ) (dst d : List ℕ) → d ≡ put dst 0 (run g) → g * size ≤ length dst → g + turns ≡ n
+      → groupLoop size turn turns g (g * size) d ≡ comes (wrote (run (min n (length dst / size))) dst)
+  loop-comes zero g dst d e h k =
       let fits : g ≤ length dst / size = le-div-iff-mul-le positive .1 h in
-      put-wrote dst (run g) e (sym (length-run g))
-      ∙ ap (λ (k : ℕ). wrote (run k) dst) (sym (ap (λ (k : ℕ). min k (length dst / size)) (add-zero g) ∙ min-eq-left fits))
-  loop-comes (suc turns) g dst d e h = by (loop-comes turns (suc g) dst) (ltb (length d) (g * size + size)) refl
+      let count : min n (length dst / size) ≡ g = omega arith in
+      ap comes (put-wrote dst (run g) e (sym (length-run g)) ∙ ap (λ (m : ℕ). wrote (run m) dst) (sym count))
+  loop-comes (suc turns) g dst d e h k = by (loop-comes turns (suc g) dst) (ltb (length d) (g * size + size)) refl
     where
       same : length d ≡ length dst
       same = ap length e ∙ length-put dst 0 (run g) (omega (arith, length-run g))
 
-      by : ((b : List ℕ) → b ≡ put dst 0 (run (suc g)) → suc g * size ≤ length dst → groupLoop size store turns (suc g) (suc g * size) b ≡ wrote (run (min (suc g + turns) (length dst / size))) dst)
+      by : ((b : List ℕ) → b ≡ put dst 0 (run (suc g)) → suc g * size ≤ length dst → suc g + turns ≡ n → groupLoop size turn turns (suc g) (suc g * size) b ≡ comes (wrote (run (min n (length dst / size))) dst))
           → (t : Bool) → ltb (length d) (g * size + size) ≡ t
-          → cond t (ends (done (g * size ∷ [])) d) (groupLoop size store turns (suc g) (g * size + size) (store g (g * size) d)) ≡ wrote (run (min (g + suc turns) (length dst / size))) dst
+          → cond t (comes (ends (done (g * size ∷ [])) d)) (turn g (g * size) d (groupLoop size turn turns (suc g) (g * size + size))) ≡ comes (wrote (run (min n (length dst / size))) dst)
       by more true t =
           let full : length dst < suc g * size = rw suc-mul (omega (arith, ltb-true (length d) (g * size + size) t, same)) in
           let most : length dst / size < suc g = div-lt-iff-lt-mul positive .1 full in
           let least : g ≤ length dst / size = le-div-iff-mul-le positive .1 h in
-          let count : min (g + suc turns) (length dst / size) ≡ g = omega arith in
-          put-wrote dst (run g) e (sym (length-run g)) ∙ ap (λ (k : ℕ). wrote (run k) dst) (sym count)
+          let count : min n (length dst / size) ≡ g = omega arith in
+          ap comes (put-wrote dst (run g) e (sym (length-run g)) ∙ ap (λ (m : ℕ). wrote (run m) dst) (sym count))
       by more false t =
           let next : g * size + size ≡ suc g * size = sym (suc-mul g size) in
           let room : g * size + size ≤ length d = ltb-false (length d) (g * size + size) t in
-          let count : suc g + turns ≡ g + suc turns = omega arith in
-          let put-here : store g (g * size) d ≡ put dst 0 (run (suc g)) = put-more dst (run g) (group g) (g * size) e (stored g d room) (length-run g) h (run-suc g) in
-          ap (λ (k : ℕ). groupLoop size store turns (suc g) k (store g (g * size) d)) next
-          ∙ more _ put-here (omega (arith, same))
-          ∙ ap (λ (k : ℕ). wrote (run (min k (length dst / size))) dst) count
+          let put-here : put d (g * size) (group g) ≡ put dst 0 (run (suc g)) = put-more dst (run g) (group g) (g * size) e refl (length-run g) h (run-suc g) in
+          turned g d (groupLoop size turn turns (suc g) (g * size + size)) (omega arith) room
+          ∙ ap (λ (m : ℕ). groupLoop size turn turns (suc g) m (put d (g * size) (group g))) next
+          ∙ more _ put-here (omega (arith, same)) (omega arith)
 
-  loop-from-start : (turns : ℕ) (dst : List ℕ) → run 0 ≡ [] → groupLoop size store turns 0 0 dst ≡ wrote (run (min turns (length dst / size))) dst
-  loop-from-start turns dst none =
+  loop-from-start : (dst : List ℕ) → run 0 ≡ [] → groupLoop size turn n 0 0 dst ≡ comes (wrote (run (min n (length dst / size))) dst)
+  loop-from-start dst none =
       let start : dst ≡ put dst 0 (run 0) = sym (ap (put dst 0) none ∙ put-nil dst 0) in
-      ap (λ (k : ℕ). groupLoop size store turns 0 k dst) (sym (zero-mul size))
-      ∙ loop-comes turns 0 dst dst start (rw zero-mul (omega arith))
-      ∙ ap (λ (k : ℕ). wrote (run (min k (length dst / size))) dst) (omega arith)
+      ap (λ (m : ℕ). groupLoop size turn n 0 m dst) (sym (zero-mul size)) ∙ loop-comes n 0 dst dst start (rw zero-mul (omega arith)) (omega arith)
 
 -- a value shifted left in a u16, a lower one beside it, and of both the low byte
-joined : (x k y : ℕ) → x * 2 ^ k < 65536 → y < 2 ^ k → asU8 (bitOr (shiftLeft x k) y) ≡ (x * 2 ^ k + y) % 256
-joined x k y h low = ap asU8 (ap (λ (z : ℕ). bitOr z y) (mod-eq-of-lt h) ∙ or-shifted x k y low)
+low-byte : (x k y : ℕ) → x * 2 ^ k < 65536 → y < 2 ^ k → asU8 (bitOr (shiftLeft x k) y) ≡ (x * 2 ^ k + y) % 256
+low-byte x k y h low = ap asU8 (ap (λ (z : ℕ). bitOr z y) (mod-eq-of-lt h) ∙ or-shifted x k y low)
 
-store-bytes : (a b c d at : ℕ) (dst : List ℕ) → a < 64 → b < 64 → c < 64 → d < 64 → at + 3 ≤ length dst → storeBytes a b c d at dst ≡ put dst at (packGroup (a ∷ b ∷ c ∷ d ∷ []))
-store-bytes a b c d at dst ha hb hc hd h =
-    let x : asU8 (bitOr (shiftLeft a 2) (shiftRight b 4)) ≡ a * 4 + b / 16 = joined a 2 (b / 16) (omega arith) (omega arith) ∙ omega arith in
-    let y : asU8 (bitOr (shiftLeft b 4) (shiftRight c 2)) ≡ b % 16 * 16 + c / 4 = joined b 4 (c / 4) (omega arith) (omega arith) ∙ omega arith in
-    let z : asU8 (bitOr (shiftLeft c 6) d) ≡ c % 4 * 64 + d = joined c 6 d (omega arith) (omega arith) ∙ omega arith in
-    stores-put dst at _ (_ ∷ _ ∷ []) (omega arith) ∙ ap (put dst at) (rw (x, y, z) (pack-group a b c d ha hb hc hd))
+store-bytes : (a b c d at : ℕ) (dst : List ℕ) (rest : List ℕ → Run) → a < 64 → b < 64 → c < 64 → d < 64 → at + 3 ≤ length dst → storeBytes a b c d at dst rest ≡ rest (put dst at (packGroup (a ∷ b ∷ c ∷ d ∷ [])))
+store-bytes a b c d at dst rest ha hb hc hd h =
+    let v0 = asU8 (bitOr (shiftLeft a 2) (shiftRight b 4)) in
+    let v1 = asU8 (bitOr (shiftLeft b 4) (shiftRight c 2)) in
+    let v2 = asU8 (bitOr (shiftLeft c 6) d) in
+    let e0 : v0 ≡ a * 4 + b / 16 = low-byte a 2 (b / 16) (omega arith) (omega arith) ∙ omega arith in
+    let e1 : v1 ≡ b % 16 * 16 + c / 4 = low-byte b 4 (c / 4) (omega arith) (omega arith) ∙ omega arith in
+    let e2 : v2 ≡ c % 4 * 64 + d = low-byte c 6 d (omega arith) (omega arith) ∙ omega arith in
+    let dst₁ = set dst at v0 in
+    let l₁ : length dst₁ ≡ length dst = length-set dst at v0 in
+    let dst₂ = set dst₁ (at + 1) v1 in
+    let l₂ : length dst₂ ≡ length dst = length-set dst₁ (at + 1) v1 ∙ l₁ in
+    rw (lt-ltb at (length dst) (omega arith), lt-ltb (at + 1) (length dst₁) (omega arith), lt-ltb (at + 2) (length dst₂) (omega arith))
+    (ap rest (stores-put dst at v0 (v1 ∷ v2 ∷ []) (omega arith) ∙ ap (put dst at) (rw (e0, e1, e2) (pack-group a b c d ha hb hc hd))))
 
-store-chars : (a b c at : ℕ) (dst : List ℕ) → a < 256 → b < 256 → c < 256 → at + 4 ≤ length dst → storeChars a b c at dst ≡ put dst at (map (charOf Crate) (unpackGroup (a ∷ b ∷ c ∷ [])))
-store-chars a b c at dst ha hb hc h =
-    let x : asU8 (shiftRight a 2) ≡ a / 4 = omega arith in
-    let y : asU8 (bitOr (shiftLeft (bitAnd a 0x03) 4) (shiftRight b 4)) ≡ a % 4 * 16 + b / 16 = ap (λ (k : ℕ). asU8 (bitOr (shiftLeft k 4) (shiftRight b 4))) (and-mask a 2) ∙ joined (a % 4) 4 (b / 16) (omega arith) (omega arith) ∙ omega arith in
-    let z : asU8 (bitOr (shiftLeft (bitAnd b 0x0F) 2) (shiftRight c 6)) ≡ b % 16 * 4 + c / 64 = ap (λ (k : ℕ). asU8 (bitOr (shiftLeft k 2) (shiftRight c 6))) (and-mask b 4) ∙ joined (b % 16) 2 (c / 64) (omega arith) (omega arith) ∙ omega arith in
-    let w : asU8 (bitAnd c 0x3F) ≡ c % 64 = ap asU8 (and-mask c 6) ∙ omega arith in
-    stores-put dst at _ (_ ∷ _ ∷ _ ∷ []) (omega arith) ∙ ap (put dst at) (rw (x, y, z, w) (ap (map (charOf Crate)) (unpack-group a b c ha hb hc)))
+store-chars : (a b c d at : ℕ) (dst : List ℕ) (rest : List ℕ → Run) → asU8 a < 64 → asU8 b < 64 → asU8 c < 64 → asU8 d < 64 → at + 4 ≤ length dst → storeChars a b c d at dst rest ≡ rest (put dst at (map (charOf Crate) (asU8 a ∷ asU8 b ∷ asU8 c ∷ asU8 d ∷ [])))
+store-chars a b c d at dst rest ha hb hc hd h =
+    let v0 = asU8 a + 0x20 in
+    let v1 = asU8 b + 0x20 in
+    let v2 = asU8 c + 0x20 in
+    let v3 = asU8 d + 0x20 in
+    let dst₁ = set dst at v0 in
+    let l₁ : length dst₁ ≡ length dst = length-set dst at v0 in
+    let dst₂ = set dst₁ (at + 1) v1 in
+    let l₂ : length dst₂ ≡ length dst = length-set dst₁ (at + 1) v1 ∙ l₁ in
+    let dst₃ = set dst₂ (at + 2) v2 in
+    let l₃ : length dst₃ ≡ length dst = length-set dst₂ (at + 2) v2 ∙ l₂ in
+    rw (
+      lt-ltb v0 256 (omega arith),
+      lt-ltb v1 256 (omega arith),
+      lt-ltb v2 256 (omega arith),
+      lt-ltb v3 256 (omega arith),
+      lt-ltb at (length dst) (omega arith),
+      lt-ltb (at + 1) (length dst₁) (omega arith),
+      lt-ltb (at + 2) (length dst₂) (omega arith),
+      lt-ltb (at + 3) (length dst₃) (omega arith),
+    ) (ap rest (stores-put dst at v0 (v1 ∷ v2 ∷ v3 ∷ []) (omega arith)))
+
+decode-group : (a b c at : ℕ) (dst : List ℕ) (rest : List ℕ → Run) → a < 256 → b < 256 → c < 256 → at + 4 ≤ length dst → decodeGroup a b c at dst rest ≡ rest (put dst at (map (charOf Crate) (unpackGroup (a ∷ b ∷ c ∷ []))))
+decode-group a b c at dst rest ha hb hc h =
+    let c0 = shiftRight a 2 in
+    let c1 = bitOr (shiftLeft (bitAnd a 0x03) 4) (shiftRight b 4) in
+    let c2 = bitOr (shiftLeft (bitAnd b 0x0F) 2) (shiftRight c 6) in
+    let c3 = bitAnd c 0x3F in
+    let e0 : asU8 c0 ≡ a / 4 = omega arith in
+    let e1 : asU8 c1 ≡ a % 4 * 16 + b / 16 = ap (λ (k : ℕ). asU8 (bitOr (shiftLeft k 4) (shiftRight b 4))) (and-mask a 2) ∙ low-byte (a % 4) 4 (b / 16) (omega arith) (omega arith) ∙ omega arith in
+    let e2 : asU8 c2 ≡ b % 16 * 4 + c / 64 = ap (λ (k : ℕ). asU8 (bitOr (shiftLeft k 2) (shiftRight c 6))) (and-mask b 4) ∙ low-byte (b % 16) 2 (c / 64) (omega arith) (omega arith) ∙ omega arith in
+    let e3 : asU8 c3 ≡ c % 64 = ap asU8 (and-mask c 6) ∙ omega arith in
+    let codes : asU8 c0 ∷ asU8 c1 ∷ asU8 c2 ∷ asU8 c3 ∷ [] ≡ unpackGroup (a ∷ b ∷ c ∷ []) = rw (e0, e1, e2, e3) (unpack-group a b c ha hb hc) in
+    store-chars c0 c1 c2 c3 at dst rest (rw e0 (omega arith)) (rw e1 (omega arith)) (rw e2 (omega arith)) (rw e3 (omega arith)) h
+    ∙ ap (λ (l : List ℕ). rest (put dst at (map (charOf Crate) l))) codes
 
 div-ceil : (n : ℕ) → divCeil n 4 ≡ groups n
 div-ceil n = by (ltb 0 (n % 4)) refl
@@ -95,16 +130,20 @@ div-ceil n = by (ltb 0 (n % 4)) refl
 source-code : (src : List ℕ) (i : ℕ) → sourceCode src i ≡ codeOf Crate (getD src i 0x20)
 source-code src i = and-mask (getD src i 0x20 - 0x20) 6
 
-pub encode-is-source : (src dst : List ℕ) → sourceEncoded src dst ≡ cratePacked src dst
+pub encode-is-source : (src dst : List ℕ) → sourceEncoded src dst ≡ comes (cratePacked src dst)
 encode-is-source src dst =
-    let stored : (g : ℕ) (d : List ℕ) → g * 3 + 3 ≤ length d → storeBytes (sourceCode src (g * 4)) (sourceCode src (g * 4 + 1)) (sourceCode src (g * 4 + 2)) (sourceCode src (g * 4 + 3)) (g * 3) d ≡ put d (g * 3) (packedGroup Crate src g) =
-    λ g d h. rw (source-code src (g * 4), source-code src (g * 4 + 1), source-code src (g * 4 + 2), source-code src (g * 4 + 3)) (store-bytes _ _ _ _ (g * 3) d (code-below Crate _) (code-below Crate _) (code-below Crate _) (code-below Crate _) h) in
-    loop-from-start 3 (lit< tt) _ (packedGroup Crate src) (packed Crate src) (packed-suc Crate src) (length-packed Crate src) stored (divCeil (length src) 4) dst (packed-zero Crate src)
-    ∙ sym (crate-packs src dst (ap (λ (n : ℕ). min n (length dst / 3)) (sym (div-ceil (length src)))))
+    let n = divCeil (length src) 4 in
+    let turned : (g : ℕ) (d : List ℕ) (rest : List ℕ → Run) → g < n → g * 3 + 3 ≤ length d → encodeTurn src g (g * 3) d rest ≡ rest (put d (g * 3) (packedGroup Crate src g)) =
+    λ g d rest l h. rw (source-code src (g * 4), source-code src (g * 4 + 1), source-code src (g * 4 + 2), source-code src (g * 4 + 3)) (store-bytes _ _ _ _ (g * 3) d rest (code-below Crate _) (code-below Crate _) (code-below Crate _) (code-below Crate _) h) in
+    loop-from-start 3 (lit< tt) n (encodeTurn src) (packedGroup Crate src) (packed Crate src) (packed-suc Crate src) (length-packed Crate src) turned dst (packed-zero Crate src)
+    ∙ ap comes (sym (crate-packs src dst (ap (λ (m : ℕ). min m (length dst / 3)) (sym (div-ceil (length src))))))
 
-pub decode-is-source : (src dst : List ℕ) → Below 256 src → sourceDecoded src dst ≡ crateUnpacked src dst
+pub decode-is-source : (src dst : List ℕ) → Below 256 src → sourceDecoded src dst ≡ comes (crateUnpacked src dst)
 decode-is-source src dst bytes =
+    let n = length src / 3 in
     let byte : (i : ℕ) → getD src i 0 < 256 = below-at 256 src bytes (lit< tt) in
-    loop-from-start 4 (lit< tt) _ (unpackedGroup Crate src) (unpacked Crate src) (unpacked-suc Crate src) (length-unpacked Crate src)
-    (λ g d h. store-chars _ _ _ (g * 4) d (byte (g * 3)) (byte (g * 3 + 1)) (byte (g * 3 + 2)) h) (length src / 3) dst (unpacked-zero Crate src)
-    ∙ sym (crate-unpacks src dst refl)
+    let turned : (g : ℕ) (d : List ℕ) (rest : List ℕ → Run) → g < n → g * 4 + 4 ≤ length d → decodeTurn src g (g * 4) d rest ≡ rest (put d (g * 4) (unpackedGroup Crate src g)) =
+    λ g d rest l h.
+    rw (lt-ltb (g * 3) (length src) (omega arith), lt-ltb (g * 3 + 1) (length src) (omega arith), lt-ltb (g * 3 + 2) (length src) (omega arith)) (decode-group _ _ _ (g * 4) d rest (byte (g * 3)) (byte (g * 3 + 1)) (byte (g * 3 + 2)) h) in
+    loop-from-start 4 (lit< tt) n (decodeTurn src) (unpackedGroup Crate src) (unpacked Crate src) (unpacked-suc Crate src) (length-unpacked Crate src) turned dst (unpacked-zero Crate src)
+    ∙ ap comes (sym (crate-unpacks src dst refl))

@@ -86,7 +86,10 @@ readBack mode character = charOf mode (codeOf mode character)
 abbrev pub filled : List ℕ → List ℕ
 filled text = text ++ replicate (groups (length text) * 4 - length text) 0x20
 
--- every character is one of 0x20 to 0x5F
+-- a character that standard mode has a code for, and a text of nothing else
+abbrev pub Coded : ℕ → Type 0
+Coded c = (0x20 ≤ c) × (c ≤ 0x5F)
+
 abbrev pub Plain : List ℕ → Type 0
 Plain [] = Unit {0}
-Plain (c ∷ text) = ((0x20 ≤ c) × (c ≤ 0x5F)) × Plain text
+Plain (c ∷ text) = Coded c × Plain text

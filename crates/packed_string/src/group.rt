@@ -1,18 +1,37 @@
-// A group of packed text each way, and runs of groups. `/` and `%` stand for the Rust's shifts and
-// masks.
+// Groups of packed text, one each way and runs of them. Where the Rust shifts and masks stand `/` and
+// `%`.
 use crate::Mode;
 ghost use mathlib.Core.Path.{_≡_};
-ghost use Prim.Native.Nat.{_+_, _*_, _≤_, _<_};
+ghost use Prim.Native.Nat.{_+_, _*_, _-_, _≤_, _<_, min};
 ghost use mathlib.Core.List.{[], _∷_};
 ghost use lib.ListN.{length, getD};
 ghost use Rattle.octets.specs.Put.{put};
 ghost use Rattle.packed_string.specs.Text.{codeOf, charOf, packGroup, unpackGroup, groups, packedGroup, unpackedGroup, packed, unpacked};
 
+fn saturating_sub(a: u8, b: u8) -> u8
+    ensures { λ r. ⌜ r ≡ a - b ⌝ }
+{
+    if a < b { 0 } else { a - b }
+}
+
+// The Rust's `div_ceil`, by 4: no sum of a length is formed.
+pub(crate) fn groups_of(n: usize) -> usize
+    ensures { λ r. ⌜ r ≡ groups n ⌝ }
+{
+    if n % 4 == 0 { n / 4 } else { n / 4 + 1 }
+}
+
+pub(crate) fn least(a: usize, b: usize) -> usize
+    ensures { λ r. ⌜ r ≡ min a b ⌝ }
+{
+    if a <= b { a } else { b }
+}
+
 fn code(mode: Mode, c: u8) -> u8
     ensures { λ r. ⌜ r ≡ codeOf mode c ⌝ }
 {
     match mode {
-        Mode::Crate => if c < 0x20 { 0 } else { (c - 0x20) % 64 },
+        Mode::Crate => saturating_sub(c, 0x20) % 64,
         Mode::Standard => c % 64,
     }
 }
@@ -57,7 +76,8 @@ fn unpack_group(b0: u8, b1: u8, b2: u8) -> [u8; 4]
     ]
 }
 
-// Group g of the text, at its place in dst.
+// Group g of the text, at its place in dst. The text reaches up to the group, so that no place in it
+// passes the largest number.
 fn put_packed(mode: Mode, src: &[u8], g: usize, dst: &mut [u8])
     requires { ⌜ (g * 4 ≤ length (now src)) × (g * 3 + 3 ≤ length (now dst)) ⌝ }
     ensures { λ _. ⌜ now (dst .exit) ≡ put (now (dst .entry)) (g * 3) (packedGroup mode (now (src .entry)) g) ⌝ }

@@ -1,8 +1,10 @@
-// Packed text (packed_string.rs): four 6-bit codes make three bytes. Here is the crate's mode; the
-// HART documents' own, which the Rust does not have, is in standard.rt.
+// Packed text in the mode of the Rust's packed_string.rs. The mode of the HART documents, which the
+// Rust does not have, is in standard.rt.
 mod group;
 mod standard;
 
+use group::groups_of;
+use group::least;
 use group::pack;
 use group::unpack;
 pub use standard::bad_place;
@@ -23,26 +25,16 @@ pub enum Mode {
 pub fn encode_packed(src: &[u8], dst: &mut [u8]) -> usize
     ensures { λ r. ⌜ ends (done (r ∷ [])) (now (dst .exit)) ≡ cratePacked (now (src .entry)) (now (dst .entry)) ⌝ }
 {
-    let n_groups = (src.len() + 3) / 4;
-    let room = dst.len() / 3;
-    if n_groups <= room {
-        pack(Mode::Crate, src, n_groups, dst);
-        return n_groups * 3;
-    }
-    pack(Mode::Crate, src, room, dst);
-    room * 3
+    let n_groups = least(groups_of(src.len()), dst.len() / 3);
+    pack(Mode::Crate, src, n_groups, dst);
+    n_groups * 3
 }
 
 // Unpacks as many whole groups as there are and fit and tells how many characters it wrote.
 pub fn decode_packed(src: &[u8], dst: &mut [u8]) -> usize
     ensures { λ r. ⌜ ends (done (r ∷ [])) (now (dst .exit)) ≡ crateUnpacked (now (src .entry)) (now (dst .entry)) ⌝ }
 {
-    let n_groups = src.len() / 3;
-    let room = dst.len() / 4;
-    if n_groups <= room {
-        unpack(Mode::Crate, src, n_groups, dst);
-        return n_groups * 4;
-    }
-    unpack(Mode::Crate, src, room, dst);
-    room * 4
+    let n_groups = least(src.len() / 3, dst.len() / 4);
+    unpack(Mode::Crate, src, n_groups, dst);
+    n_groups * 4
 }

@@ -1,5 +1,6 @@
 // Packed text in the standard mode (ADDED): the whole text or bytes, or a refusal.
 use crate::Mode;
+use crate::group::groups_of;
 use crate::group::pack;
 use crate::group::unpack;
 use refusal::Refusal;
@@ -29,7 +30,7 @@ pub fn bad_place(src: &[u8]) -> usize
 pub fn encode_standard(src: &[u8], dst: &mut [u8]) -> Written
     ensures { λ r. ⌜ ends (replyOf r) (now (dst .exit)) ≡ standardPacked (now (src .entry)) (now (dst .entry)) ⌝ }
 {
-    let n_groups = (src.len() + 3) / 4;
+    let n_groups = groups_of(src.len());
     if dst.len() / 3 < n_groups {
         return Written::Refused(Refusal::BufferTooSmall);
     }

@@ -1,4 +1,5 @@
--- An answer is known by its reply, so a promise that equates outcomes leaves one answer. Assumes nothing.
+-- An answer is known by its reply, so a promise that equates outcomes leaves one answer and one buffer; and one that gives the answer
+-- alone leaves one answer.
 use Prim.Native.Nat.{ℕ, _-_}
 use mathlib.Core.Path.{_≡_, refl, sym, ap, _∙_}
 use mathlib.Core.List.{List, [], _∷_}
@@ -64,3 +65,6 @@ count-known m n e = cc
 
 pub agree : {A : Type 0} (reply : A → Reply) → ((r s : A) → reply r ≡ reply s → r ≡ s) → {r s : A} {b c : List ℕ} {o : Outcome} → ends (reply r) b ≡ o → ends (reply s) c ≡ o → (r ≡ s) × (b ≡ c)
 agree reply known {r} {s} p q = let e : reply r ≡ reply s = cc in (known r s e, cc)
+
+pub agree-alone : {A : Type 0} {r s e : A} → r ≡ e → s ≡ e → (r ≡ s) × (_≡_ {A = Unit {0}} (tt {0}) (tt {0}))
+agree-alone p q = (p ∙ sym q, refl)

@@ -1,6 +1,7 @@
 -- Document 01, 'Promises', asks that a promise leave no choice. This says so of a contract as the source states it: from one entry, any
 -- two outcomes that it allows are the same answer, and the same in what `seen` reads of the parameters at exit (the lent buffers).
--- Each crate's proofs/Determined.antt shows it of each public function.
+-- `seen` has to read every buffer lent by `&mut`. Each library's proofs/Determined.antt shows it of each public function, and
+-- .ci/promises that none is left out.
 use Prim.Native.Nat.{ℕ}
 use mathlib.Core.Path.{_≡_}
 use mathlib.Core.List.{List}

@@ -1,7 +1,6 @@
--- As many groups as there are, or as many as fit.
-use Prim.Native.Nat.{_/_}
-use native.Mathlib.Nat.{min-eq-left, min-eq-right, le-of-lt}
-use mathlib.Core.Path.{sym, _∙_}
+-- As many groups as there are and fit.
+use Prim.Native.Nat.{_/_, min}
+use mathlib.Core.Path.{_≡_, sym, _∙_}
 use lib.ListN.{length}
 use borrow.Author.Needs.{needs}
 use Rattle.octets.proofs.Put.{put-wrote}
@@ -11,6 +10,9 @@ use Rattle.packed_string.proofs.Groups.{length-unpacked}
 use Rattle.packed_string.proofs.Calls.{crate-unpacks}
 use Rattle.packed_string.proofs.decode_packed.Statement.{statement}
 use Rattle.packed_string.proofs.decode_packed.Tie as tie
+
+least-requires : tie.Need-least-requires
+least-requires c κs = search needs
 
 unpack-requires : tie.Need-unpack-requires
 unpack-requires c κs = search needs
@@ -26,35 +28,10 @@ returns c =
     let a = c .before .before .before .before .before .before .before .args in
     let s = a .src .now in
     let d = a .dst .now in
-    let n = length s / 3 in
-    put-wrote d (unpacked Crate s n) (c .before .before .unpack .ensures) (sym (length-unpacked Crate s n)) ∙ sym (crate-unpacks s d (min-eq-left (c .before .before .before .before .if1 .taken)))
-
-unpack-requires-2 : tie.Need-unpack-requires-2
-unpack-requires-2 c κs = search needs
-
-mul-result-2 : tie.Need-mul-result-2
-mul-result-2 c = search needs
-
-same-length-2 : tie.Need-same-length-2
-same-length-2 c = search needs
-
-returns-2 : tie.Need-returns-2
-returns-2 c =
-    let a = c .before .before .before .before .before .before .before .args in
-    let s = a .src .now in
-    let d = a .dst .now in
-    let n = length d / 4 in
-    put-wrote d (unpacked Crate s n) (c .before .before .unpack2 .ensures) (sym (length-unpacked Crate s n)) ∙ sym (crate-unpacks s d (min-eq-right (le-of-lt (c .before .before .before .before .if1 .left))))
+    let n = c .before .before .before .before .least .result in
+    let e : min (length s / 3) (length d / 4) ≡ n = sym (c .before .before .before .before .least .ensures) in
+    put-wrote d (unpacked Crate s n) (c .before .before .unpack .ensures) (sym (length-unpacked Crate s n)) ∙ sym (crate-unpacks s d e)
 
 pub decode-packed-spec : {M : Type 1} → statement M
 decode-packed-spec =
-    tie.close
-    (tie.spec
-    unpack-requires
-    mul-result
-    same-length
-    returns
-    unpack-requires-2
-    mul-result-2
-    same-length-2
-    returns-2)
+    tie.close (tie.spec least-requires unpack-requires mul-result same-length returns)

@@ -7,15 +7,15 @@ use Rattle.octets.proofs.Put.{put-wrote}
 use Rattle.packed_string.specs.declared.Mode.the-variants.{Standard}
 use Rattle.packed_string.specs.Text.{unpacked}
 use Rattle.packed_string.proofs.Groups.{length-unpacked}
-use Rattle.packed_string.proofs.Calls.{standard-left-over, standard-no-room-back, standard-unpacks}
+use Rattle.packed_string.proofs.Calls.{standard-unpacks-left-over, standard-unpacks-no-room, standard-unpacks}
 use Rattle.packed_string.proofs.standard.decode_standard.Statement.{statement}
 use Rattle.packed_string.proofs.standard.decode_standard.Tie as tie
 
 returns : tie.Need-returns
-returns c = let a = c .before .before .before .args in sym (standard-left-over (a .src .now) (a .dst .now) (c .if1 .taken))
+returns c = let a = c .before .before .before .args in sym (standard-unpacks-left-over (a .src .now) (a .dst .now) (c .if1 .taken))
 
 returns-2 : tie.Need-returns-2
-returns-2 c = let a = c .before .before .before .before .args in sym (standard-no-room-back (a .src .now) (a .dst .now) (c .before .if1 .left) (c .if2 .taken))
+returns-2 c = let a = c .before .before .before .before .args in sym (standard-unpacks-no-room (a .src .now) (a .dst .now) (c .before .if1 .left) (c .if2 .taken))
 
 unpack-requires : tie.Need-unpack-requires
 unpack-requires c κs = search needs
