@@ -69,11 +69,6 @@ pub put-turn : (l : List ℕ) (at i : ℕ) (bs : List ℕ) (v : ℕ) {b cs : Lis
 put-turn l at i bs v {b} {cs} e n h f =
     ap (λ (r : List ℕ). set r (at + i) v) e ∙ put-snoc l at bs v (at + i) h (ap (λ (k : ℕ). at + k) n) ∙ sym (ap (put l at) f)
 
--- a turn of a loop that puts a part at the place k that it has reached
-pub put-more : (l bs cs : List ℕ) (k : ℕ) {b d ds : List ℕ} → b ≡ put l 0 bs → d ≡ put b k cs → length bs ≡ k → k ≤ length l → ds ≡ bs ++ cs → d ≡ put l 0 ds
-put-more l bs cs k eb ed n h e =
-    ed ∙ ap (λ (x : List ℕ). put x k cs) eb ∙ put-put l 0 bs cs k (omega arith) (omega arith) ∙ sym (ap (put l 0) e)
-
 -- stores in a row, as straight code makes them: at place at + k, at + (k + 1), and so on
 abbrev pub stores : List ℕ → ℕ → ℕ → List ℕ → List ℕ
 stores l at k [] = l

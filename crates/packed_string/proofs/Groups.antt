@@ -1,12 +1,13 @@
--- Groups and runs of groups: a group's bytes and codes as the code works them out, that they undo one another, and a run by its turns.
-use Prim.Native.Nat.{ℕ, zero, suc, _+_, _*_, _/_, _%_, _<_}
+-- Groups: their bytes and codes as the code works them out, that these undo one another, and how long a run of groups is.
+use Prim.Native.Nat.{ℕ, _+_, _*_, _/_, _%_, _<_}
 use native.Mathlib.Omega.{arith}
 use mathlib.Core.Path.{_≡_, refl, ap, _∙_}
-use mathlib.Core.List.{List, [], _∷_, _++_, map}
-use lib.ListN.{length, getD, length-append}
+use mathlib.Core.List.{List, [], _∷_, map}
+use lib.ListN.{length, getD}
 use lib.Dec.{lit<}
 use Rattle.octets.specs.Digits.{Below, fromDigits, digits}
 use Rattle.octets.proofs.Digits.{below-at, digits-below, from-digits-whole, from-below, digits-from}
+use Rattle.octets.proofs.Parts.{length-parts}
 use Rattle.packed_string.specs.declared.Mode.{Mode}
 use Rattle.packed_string.specs.declared.Mode.the-variants.{Crate, Standard}
 use Rattle.packed_string.specs.Text.{codeOf, charOf, charsAt, bytesAt, packGroup, unpackGroup, packedGroup, unpackedGroup, packed, unpacked}
@@ -66,28 +67,16 @@ module _ (m : Mode) (s : List ℕ) (g : ℕ) where
       rw (ea, eb, ec, ed) (ap (λ (l : List ℕ). map (charOf m) (getD l 0 0 ∷ getD l 1 0 ∷ getD l 2 0 ∷ getD l 3 0 ∷ [])) e)
 
 module _ (m : Mode) (s : List ℕ) where
-  pub packed-zero : packed m s 0 ≡ []
-  unfolding packed
-  packed-zero = refl
-
-  pub packed-suc : (g : ℕ) → packed m s (suc g) ≡ packed m s g ++ packedGroup m s g
-  unfolding packed
-  packed-suc g = refl
+  pub packed-sized : (g : ℕ) → length (packedGroup m s g) ≡ 3
+  unfolding packGroup
+  packed-sized g = refl
 
   pub length-packed : (g : ℕ) → length (packed m s g) ≡ g * 3
-  unfolding packed packGroup
-  length-packed zero = refl
-  length-packed (suc g) = omega (arith, length-append (packed m s g) (packedGroup m s g), length-packed g)
+  length-packed = length-parts (packedGroup m s) 3 packed-sized
 
-  pub unpacked-zero : unpacked m s 0 ≡ []
-  unfolding unpacked
-  unpacked-zero = refl
-
-  pub unpacked-suc : (g : ℕ) → unpacked m s (suc g) ≡ unpacked m s g ++ unpackedGroup m s g
-  unfolding unpacked
-  unpacked-suc g = refl
+  pub unpacked-sized : (g : ℕ) → length (unpackedGroup m s g) ≡ 4
+  unfolding unpackGroup
+  unpacked-sized g = refl
 
   pub length-unpacked : (g : ℕ) → length (unpacked m s g) ≡ g * 4
-  unfolding unpacked unpackGroup
-  length-unpacked zero = refl
-  length-unpacked (suc g) = omega (arith, length-append (unpacked m s g) (unpackedGroup m s g), length-unpacked g)
+  length-unpacked = length-parts (unpackedGroup m s) 4 unpacked-sized

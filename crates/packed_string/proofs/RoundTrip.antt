@@ -11,6 +11,8 @@ use lib.Seq.{drop-cons, take-add, take-all, getD-append-add}
 use lib.Dec.{ltb, lit≤}
 use borrow.Author.Tests.{ltb-true, ltb-false}
 use Rattle.refusal.specs.Outcome.{wrote}
+use Rattle.octets.specs.Put.{firstParts}
+use Rattle.octets.proofs.Parts.{parts-zero, parts-suc}
 use Rattle.packed_string.specs.declared.Mode.{Mode}
 use Rattle.packed_string.specs.declared.Mode.the-variants.{Crate, Standard}
 use Rattle.packed_string.specs.Text.{
@@ -34,7 +36,7 @@ use Rattle.packed_string.specs.Text.{
   Coded,
   Plain,
 }
-use Rattle.packed_string.proofs.Groups.{code-below, group-back, packed-suc, length-packed, unpacked-zero, unpacked-suc}
+use Rattle.packed_string.proofs.Groups.{code-below, group-back, length-packed}
 use Rattle.packed_string.proofs.BadPlace.{plain-place}
 use Rattle.packed_string.proofs.Calls.{crate-packs, crate-unpacks, standard-packs, standard-unpacks}
 
@@ -48,8 +50,7 @@ bytes-behind p g x y z rest e =
 
 -- the characters of the first groups, the last one filled
 abbrev characters : List ℕ → ℕ → List ℕ
-characters text zero = []
-characters text (suc g) = characters text g ++ charsAt text g
+characters text g = firstParts (charsAt text) g
 
 module _ (m : Mode) (text : List ℕ) where
   group-read : (p rest : List ℕ) (g : ℕ) → length p ≡ g * 3 → unpackedGroup m (p ++ (packedGroup m text g ++ rest)) g ≡ map (readBack m) (charsAt text g)
@@ -61,14 +62,14 @@ module _ (m : Mode) (text : List ℕ) where
 
   -- whatever stands behind them, the first groups read back
   pub groups-back : (g : ℕ) (rest : List ℕ) → unpacked m (packed m text g ++ rest) g ≡ map (readBack m) (characters text g)
-  groups-back zero rest = unpacked-zero m (packed m text 0 ++ rest)
+  groups-back zero rest = parts-zero (unpackedGroup m (packed m text 0 ++ rest)) ∙ ap (map (readBack m)) (sym (parts-zero (charsAt text)))
   groups-back (suc g) rest =
       let p = packed m text g in
       let q = packedGroup m text g in
-      ap (λ (l : List ℕ). unpacked m l (suc g)) (ap (λ (l : List ℕ). l ++ rest) (packed-suc m text g) ∙ append-assoc p q rest)
-      ∙ unpacked-suc m (p ++ (q ++ rest)) g
+      ap (λ (l : List ℕ). unpacked m l (suc g)) (ap (λ (l : List ℕ). l ++ rest) (parts-suc (packedGroup m text) g) ∙ append-assoc p q rest)
+      ∙ parts-suc (unpackedGroup m (p ++ (q ++ rest))) g
       ∙ ap₂ _++_ (groups-back g (q ++ rest)) (group-read p rest g (length-packed m text g))
-      ∙ sym (map-append (readBack m) (characters text g) (charsAt text g))
+      ∙ sym (ap (map (readBack m)) (parts-suc (charsAt text) g) ∙ map-append (readBack m) (characters text g) (charsAt text g))
 
 -- past the end of a text stands a space, whether or not spaces were put there
 getD-spaces : (k i : ℕ) → getD {A = ℕ} (replicate k 0x20) i 0x20 ≡ 0x20
@@ -89,12 +90,12 @@ four-of l n h =
     rw (e1, e2, e3, drop-cons l n 0x20 (omega arith), drop-cons l (suc n) 0x20 (omega arith), drop-cons l (suc (suc n)) 0x20 (omega arith), drop-cons l (suc (suc (suc n))) 0x20 (omega arith))
 
 characters-take : (text : List ℕ) (k g : ℕ) → g * 4 ≤ length (text ++ replicate k 0x20) → characters text g ≡ take (g * 4) (text ++ replicate k 0x20)
-characters-take text k zero h = refl
+characters-take text k zero h = parts-zero (charsAt text)
 characters-take text k (suc g) h =
     let l = text ++ replicate k 0x20 in
     let e : suc g * 4 ≡ g * 4 + 4 = omega arith in
     let chars : charsAt text g ≡ take 4 (drop (g * 4) l) = sym (four-of l (g * 4) (omega arith) ∙ rw (getD-filled text k (g * 4), getD-filled text k (g * 4 + 1), getD-filled text k (g * 4 + 2), getD-filled text k (g * 4 + 3))) in
-    ap₂ _++_ (characters-take text k g (omega arith)) chars ∙ sym (ap (λ (i : ℕ). take i l) e ∙ take-add (g * 4) 4 l)
+    parts-suc (charsAt text) g ∙ ap₂ _++_ (characters-take text k g (omega arith)) chars ∙ sym (ap (λ (i : ℕ). take i l) e ∙ take-add (g * 4) 4 l)
 
 pub length-filled : (text : List ℕ) → length (filled text) ≡ groups (length text) * 4
 length-filled text =

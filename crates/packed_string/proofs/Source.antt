@@ -5,20 +5,21 @@ use native.Mathlib.Nat.{zero-mul, suc-mul, mod-eq-of-lt, le-div-iff-mul-le, div-
 use native.Mathlib.Omega.{arith}
 use mathlib.Core.Path.{_≡_, refl, sym, ap, _∙_}
 use mathlib.Core.Bool.{Bool, true, false, cond}
-use mathlib.Core.List.{List, [], _∷_, _++_, map}
+use mathlib.Core.List.{List, [], _∷_, map}
 use lib.ListN.{length, getD, set, length-set}
 use lib.Bits.{bitAnd, bitOr, and-mask, or-shifted}
 use lib.Dec.{ltb, lit<}
 use borrow.Author.Tests.{ltb-true, ltb-false, lt-ltb}
 use Rattle.refusal.specs.Outcome.{ends, done, wrote}
 use Rattle.octets.specs.Digits.{Below}
-use Rattle.octets.specs.Put.{put}
+use Rattle.octets.specs.Put.{put, firstParts}
 use Rattle.octets.proofs.Digits.{below-at}
-use Rattle.octets.proofs.Put.{length-put, put-nil, put-more, put-wrote, stores-put}
+use Rattle.octets.proofs.Put.{length-put, put-wrote, stores-put}
+use Rattle.octets.proofs.Parts.{length-parts, parts-start, parts-turn}
 use Rattle.packed_string.specs.declared.Mode.the-variants.{Crate}
-use Rattle.packed_string.specs.Text.{codeOf, charOf, packGroup, unpackGroup, packedGroup, unpackedGroup, packed, unpacked, groups, cratePacked, crateUnpacked}
+use Rattle.packed_string.specs.Text.{codeOf, charOf, packGroup, unpackGroup, packedGroup, unpackedGroup, groups, cratePacked, crateUnpacked}
 use Rattle.packed_string.specs.Source.{Run, comes, divCeil, shiftLeft, shiftRight, asU8, groupLoop, sourceCode, storeBytes, encodeTurn, sourceEncoded, storeChars, decodeGroup, decodeTurn, sourceDecoded}
-use Rattle.packed_string.proofs.Groups.{code-below, pack-group, unpack-group, packed-zero, packed-suc, length-packed, unpacked-zero, unpacked-suc, length-unpacked}
+use Rattle.packed_string.proofs.Groups.{code-below, pack-group, unpack-group, packed-sized, unpacked-sized}
 use Rattle.packed_string.proofs.Calls.{crate-packs, crate-unpacks}
 
 -- The loop, for groups of any size, of which there are n: it writes as many as there are, or as fit.
@@ -27,42 +28,39 @@ module _ (size : ℕ)
     (n : ℕ)
     (turn : ℕ → ℕ → List ℕ → (List ℕ → Run) → Run)
     (group : ℕ → List ℕ)
-    (run : ℕ → List ℕ)
-    (run-suc : (g : ℕ) → run (suc g) ≡ run g ++ group g)
-    (length-run : (g : ℕ) → length (run g) ≡ g * size)
+    (sized : (g : ℕ) → length (group g) ≡ size)
     (turned : (g : ℕ) (dst : List ℕ) (rest : List ℕ → Run) → g < n → g * size + size ≤ length dst → turn g (g * size) dst rest ≡ rest (put dst (g * size) (group g))) where
-  loop-comes : (turns g : ℕ) (dst d : List ℕ) → d ≡ put dst 0 (run g) → g * size ≤ length dst → g + turns ≡ n
-      → groupLoop size turn turns g (g * size) d ≡ comes (wrote (run (min n (length dst / size))) dst)
+  loop-comes : (turns g : ℕ) (dst d : List ℕ) → d ≡ put dst 0 (firstParts group g) → g * size ≤ length dst → g + turns ≡ n
+      → groupLoop size turn turns g (g * size) d ≡ comes (wrote (firstParts group (min n (length dst / size))) dst)
   loop-comes zero g dst d e h k =
       let fits : g ≤ length dst / size = le-div-iff-mul-le positive .1 h in
       let count : min n (length dst / size) ≡ g = omega arith in
-      ap comes (put-wrote dst (run g) e (sym (length-run g)) ∙ ap (λ (m : ℕ). wrote (run m) dst) (sym count))
+      ap comes (put-wrote dst (firstParts group g) e (sym (length-parts group size sized g)) ∙ ap (λ (m : ℕ). wrote (firstParts group m) dst) (sym count))
   loop-comes (suc turns) g dst d e h k = by (loop-comes turns (suc g) dst) (ltb (length d) (g * size + size)) refl
     where
       same : length d ≡ length dst
-      same = ap length e ∙ length-put dst 0 (run g) (omega (arith, length-run g))
+      same = ap length e ∙ length-put dst 0 (firstParts group g) (omega (arith, length-parts group size sized g))
 
-      by : ((b : List ℕ) → b ≡ put dst 0 (run (suc g)) → suc g * size ≤ length dst → suc g + turns ≡ n → groupLoop size turn turns (suc g) (suc g * size) b ≡ comes (wrote (run (min n (length dst / size))) dst))
+      by : ((b : List ℕ) → b ≡ put dst 0 (firstParts group (suc g)) → suc g * size ≤ length dst → suc g + turns ≡ n → groupLoop size turn turns (suc g) (suc g * size) b ≡ comes (wrote (firstParts group (min n (length dst / size))) dst))
           → (t : Bool) → ltb (length d) (g * size + size) ≡ t
-          → cond t (comes (ends (done (g * size ∷ [])) d)) (turn g (g * size) d (groupLoop size turn turns (suc g) (g * size + size))) ≡ comes (wrote (run (min n (length dst / size))) dst)
+          → cond t (comes (ends (done (g * size ∷ [])) d)) (turn g (g * size) d (groupLoop size turn turns (suc g) (g * size + size))) ≡ comes (wrote (firstParts group (min n (length dst / size))) dst)
       by more true t =
           let full : length dst < suc g * size = rw suc-mul (omega (arith, ltb-true (length d) (g * size + size) t, same)) in
           let most : length dst / size < suc g = div-lt-iff-lt-mul positive .1 full in
           let least : g ≤ length dst / size = le-div-iff-mul-le positive .1 h in
           let count : min n (length dst / size) ≡ g = omega arith in
-          ap comes (put-wrote dst (run g) e (sym (length-run g)) ∙ ap (λ (m : ℕ). wrote (run m) dst) (sym count))
+          ap comes (put-wrote dst (firstParts group g) e (sym (length-parts group size sized g)) ∙ ap (λ (m : ℕ). wrote (firstParts group m) dst) (sym count))
       by more false t =
           let next : g * size + size ≡ suc g * size = sym (suc-mul g size) in
           let room : g * size + size ≤ length d = ltb-false (length d) (g * size + size) t in
-          let put-here : put d (g * size) (group g) ≡ put dst 0 (run (suc g)) = put-more dst (run g) (group g) (g * size) e refl (length-run g) h (run-suc g) in
+          let put-here : put d (g * size) (group g) ≡ put dst 0 (firstParts group (suc g)) = parts-turn group size sized dst g e refl h in
           turned g d (groupLoop size turn turns (suc g) (g * size + size)) (omega arith) room
           ∙ ap (λ (m : ℕ). groupLoop size turn turns (suc g) m (put d (g * size) (group g))) next
           ∙ more _ put-here (omega (arith, same)) (omega arith)
 
-  loop-from-start : (dst : List ℕ) → run 0 ≡ [] → groupLoop size turn n 0 0 dst ≡ comes (wrote (run (min n (length dst / size))) dst)
-  loop-from-start dst none =
-      let start : dst ≡ put dst 0 (run 0) = sym (ap (put dst 0) none ∙ put-nil dst 0) in
-      ap (λ (m : ℕ). groupLoop size turn n 0 m dst) (sym (zero-mul size)) ∙ loop-comes n 0 dst dst start (rw zero-mul (omega arith)) (omega arith)
+  loop-from-start : (dst : List ℕ) → groupLoop size turn n 0 0 dst ≡ comes (wrote (firstParts group (min n (length dst / size))) dst)
+  loop-from-start dst =
+      ap (λ (m : ℕ). groupLoop size turn n 0 m dst) (sym (zero-mul size)) ∙ loop-comes n 0 dst dst (parts-start group dst) (rw zero-mul (omega arith)) (omega arith)
 
 -- a value shifted left in a u16, a lower one beside it, and of both the low byte
 low-byte : (x k y : ℕ) → x * 2 ^ k < 65536 → y < 2 ^ k → asU8 (bitOr (shiftLeft x k) y) ≡ (x * 2 ^ k + y) % 256
@@ -135,7 +133,7 @@ encode-is-source src dst =
     let n = divCeil (length src) 4 in
     let turned : (g : ℕ) (d : List ℕ) (rest : List ℕ → Run) → g < n → g * 3 + 3 ≤ length d → encodeTurn src g (g * 3) d rest ≡ rest (put d (g * 3) (packedGroup Crate src g)) =
     λ g d rest l h. rw (source-code src (g * 4), source-code src (g * 4 + 1), source-code src (g * 4 + 2), source-code src (g * 4 + 3)) (store-bytes _ _ _ _ (g * 3) d rest (code-below Crate _) (code-below Crate _) (code-below Crate _) (code-below Crate _) h) in
-    loop-from-start 3 (lit< tt) n (encodeTurn src) (packedGroup Crate src) (packed Crate src) (packed-suc Crate src) (length-packed Crate src) turned dst (packed-zero Crate src)
+    loop-from-start 3 (lit< tt) n (encodeTurn src) (packedGroup Crate src) (packed-sized Crate src) turned dst
     ∙ ap comes (sym (crate-packs src dst (ap (λ (m : ℕ). min m (length dst / 3)) (sym (div-ceil (length src))))))
 
 pub decode-is-source : (src dst : List ℕ) → Below 256 src → sourceDecoded src dst ≡ comes (crateUnpacked src dst)
@@ -145,5 +143,5 @@ decode-is-source src dst bytes =
     let turned : (g : ℕ) (d : List ℕ) (rest : List ℕ → Run) → g < n → g * 4 + 4 ≤ length d → decodeTurn src g (g * 4) d rest ≡ rest (put d (g * 4) (unpackedGroup Crate src g)) =
     λ g d rest l h.
     rw (lt-ltb (g * 3) (length src) (omega arith), lt-ltb (g * 3 + 1) (length src) (omega arith), lt-ltb (g * 3 + 2) (length src) (omega arith)) (decode-group _ _ _ (g * 4) d rest (byte (g * 3)) (byte (g * 3 + 1)) (byte (g * 3 + 2)) h) in
-    loop-from-start 4 (lit< tt) n (decodeTurn src) (unpackedGroup Crate src) (unpacked Crate src) (unpacked-suc Crate src) (length-unpacked Crate src) turned dst (unpacked-zero Crate src)
+    loop-from-start 4 (lit< tt) n (decodeTurn src) (unpackedGroup Crate src) (unpacked-sized Crate src) turned dst
     ∙ ap comes (sym (crate-unpacks src dst refl))

@@ -1,11 +1,12 @@
 -- Packed text, as document 01 has it under that heading, in its order. Texts and packed bytes are lists of numbers below 256.
-use Prim.Native.Nat.{ℕ, zero, suc, _+_, _*_, _-_, _/_, _%_, _≤_, min}
+use Prim.Native.Nat.{ℕ, suc, _+_, _*_, _-_, _/_, _%_, _≤_, min}
 use mathlib.Core.Bool.{cond, not, _&&_}
 use mathlib.Core.List.{List, [], _∷_, _++_, map}
 use lib.ListN.{length, getD, replicate}
 use lib.Dec.{ltb, leb, eqb}
 use Rattle.refusal.specs.Outcome.{Outcome, wrote, refuses}
 use Rattle.octets.specs.Digits.{digits, fromDigits}
+use Rattle.octets.specs.Put.{firstParts}
 use Rattle.packed_string.specs.declared.Mode.{Mode}
 use Rattle.packed_string.specs.declared.Mode.the-variants.{Crate, Standard}
 
@@ -40,13 +41,11 @@ abbrev pub unpackedGroup : Mode → List ℕ → ℕ → List ℕ
 unpackedGroup mode bytes g = map (charOf mode) (unpackGroup (bytesAt bytes g))
 
 -- the first groups of a text, packed, and of some bytes, unpacked
-unfoldable pub packed : Mode → List ℕ → ℕ → List ℕ
-packed mode text zero = []
-packed mode text (suc g) = packed mode text g ++ packedGroup mode text g
+abbrev pub packed : Mode → List ℕ → ℕ → List ℕ
+packed mode text g = firstParts (packedGroup mode text) g
 
-unfoldable pub unpacked : Mode → List ℕ → ℕ → List ℕ
-unpacked mode bytes zero = []
-unpacked mode bytes (suc g) = unpacked mode bytes g ++ unpackedGroup mode bytes g
+abbrev pub unpacked : Mode → List ℕ → ℕ → List ℕ
+unpacked mode bytes g = firstParts (unpackedGroup mode bytes) g
 
 -- how many groups a text of n characters takes, the last one filled
 abbrev pub groups : ℕ → ℕ

@@ -1,13 +1,13 @@
 -- The loop's invariant: the first g groups stand packed at the front of the buffer.
-use Prim.Native.Nat.{_*_, _-_, _≤_}
+use Prim.Native.Nat.{_-_, _≤_}
 use native.Mathlib.Numerals.{add-one}
 use native.Mathlib.Omega.{arith}
-use mathlib.Core.Path.{_≡_, refl, sym, ap, _∙_}
+use mathlib.Core.Path.{_≡_, refl}
 use lib.ListN.{length}
 use Rattle.octets.specs.Put.{put}
-use Rattle.octets.proofs.Put.{put-nil, put-more}
+use Rattle.octets.proofs.Parts.{parts-start, parts-turn}
 use Rattle.packed_string.specs.Text.{packedGroup, packed}
-use Rattle.packed_string.proofs.Groups.{packed-zero, packed-suc, length-packed}
+use Rattle.packed_string.proofs.Groups.{packed-sized}
 use Rattle.packed_string.proofs.group.pack.Statement.{statement}
 use Rattle.packed_string.proofs.group.pack.Tie as tie
 
@@ -18,7 +18,7 @@ abbrev μ-loop : tie.MeasureT-loop
 μ-loop mode src n dst₀ g₀ dst g = n - g
 
 loop-holds : tie.Need-loop-holds Inv-loop μ-loop
-loop-holds c = let a = c .before .before .args in (omega arith, (sym (ap (put (a .dst .now) 0) (packed-zero (a .mode) (a .src .now)) ∙ put-nil (a .dst .now) 0), refl))
+loop-holds c = let a = c .before .before .args in (omega arith, (parts-start (packedGroup (a .mode) (a .src .now)) (a .dst .now), refl))
 
 put-packed-requires : tie.Need-put-packed-requires Inv-loop μ-loop
 put-packed-requires c κs = omega arith
@@ -33,11 +33,11 @@ loop-again : tie.Need-loop-again Inv-loop μ-loop
 loop-again c =
     let l = c .before .before .before .before .before in
     let a = l .before .before .before .args in
-    let g = l .loop .g in
+    let m = a .mode in
     let s = a .src .now in (
       omega arith,
       (
-        put-more (a .dst .now) (packed (a .mode) s g) (packedGroup (a .mode) s g) (g * 3) (l .loop .inv .1 .0) (c .before .before .put-packed .ensures) (length-packed (a .mode) s g) (omega arith) (ap (packed (a .mode) s) (add-one g) ∙ packed-suc (a .mode) s g),
+        rw add-one (parts-turn (packedGroup m s) 3 (packed-sized m s) (a .dst .now) (l .loop .g) (l .loop .inv .1 .0) (c .before .before .put-packed .ensures) (omega arith)),
         omega (arith, l .loop .inv .1 .1, c .before .before .put-packed .kept),
       ),
     )

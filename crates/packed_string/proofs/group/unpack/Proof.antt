@@ -1,13 +1,13 @@
 -- The loop's invariant: the first g groups stand unpacked at the front of the buffer.
-use Prim.Native.Nat.{_*_, _-_, _≤_}
+use Prim.Native.Nat.{_-_, _≤_}
 use native.Mathlib.Numerals.{add-one}
 use native.Mathlib.Omega.{arith}
-use mathlib.Core.Path.{_≡_, refl, sym, ap, _∙_}
+use mathlib.Core.Path.{_≡_, refl}
 use lib.ListN.{length}
 use Rattle.octets.specs.Put.{put}
-use Rattle.octets.proofs.Put.{put-nil, put-more}
+use Rattle.octets.proofs.Parts.{parts-start, parts-turn}
 use Rattle.packed_string.specs.Text.{unpackedGroup, unpacked}
-use Rattle.packed_string.proofs.Groups.{unpacked-zero, unpacked-suc, length-unpacked}
+use Rattle.packed_string.proofs.Groups.{unpacked-sized}
 use Rattle.packed_string.proofs.group.unpack.Statement.{statement}
 use Rattle.packed_string.proofs.group.unpack.Tie as tie
 
@@ -18,7 +18,7 @@ abbrev μ-loop : tie.MeasureT-loop
 μ-loop mode src n dst₀ g₀ dst g = n - g
 
 loop-holds : tie.Need-loop-holds Inv-loop μ-loop
-loop-holds c = let a = c .before .before .args in (omega arith, (sym (ap (put (a .dst .now) 0) (unpacked-zero (a .mode) (a .src .now)) ∙ put-nil (a .dst .now) 0), refl))
+loop-holds c = let a = c .before .before .args in (omega arith, (parts-start (unpackedGroup (a .mode) (a .src .now)) (a .dst .now), refl))
 
 put-unpacked-requires : tie.Need-put-unpacked-requires Inv-loop μ-loop
 put-unpacked-requires c κs = omega arith
@@ -33,11 +33,11 @@ loop-again : tie.Need-loop-again Inv-loop μ-loop
 loop-again c =
     let l = c .before .before .before .before .before in
     let a = l .before .before .before .args in
-    let g = l .loop .g in
+    let m = a .mode in
     let s = a .src .now in (
       omega arith,
       (
-        put-more (a .dst .now) (unpacked (a .mode) s g) (unpackedGroup (a .mode) s g) (g * 4) (l .loop .inv .1 .0) (c .before .before .put-unpacked .ensures) (length-unpacked (a .mode) s g) (omega arith) (ap (unpacked (a .mode) s) (add-one g) ∙ unpacked-suc (a .mode) s g),
+        rw add-one (parts-turn (unpackedGroup m s) 4 (unpacked-sized m s) (a .dst .now) (l .loop .g) (l .loop .inv .1 .0) (c .before .before .put-unpacked .ensures) (omega arith)),
         omega (arith, l .loop .inv .1 .1, c .before .before .put-unpacked .kept),
       ),
     )
