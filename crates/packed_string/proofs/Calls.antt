@@ -1,4 +1,4 @@
--- What each call comes to, a law for each sentence of document 01 on it: callers cite these and not the definitions' text.
+-- What each call comes to, case by case: callers cite these laws and not the definitions' text.
 use Prim.Native.Nat.{ℕ, _/_, _%_, _≤_, _<_, min}
 use mathlib.Core.Path.{_≡_, ap}
 use mathlib.Core.List.{List, [], _∷_}

@@ -2,15 +2,15 @@
 use Prim.Native.Nat.{ℕ, _+_, _*_, _/_, _%_, _<_}
 use native.Mathlib.Omega.{arith}
 use mathlib.Core.Path.{_≡_, refl, ap, _∙_}
-use mathlib.Core.List.{List, [], _∷_, map}
-use lib.ListN.{length, getD}
+use mathlib.Core.List.{List, [], _∷_}
+use lib.ListN.{length}
 use lib.Dec.{lit<}
 use Rattle.octets.specs.Digits.{Below, fromDigits, digits}
-use Rattle.octets.proofs.Digits.{below-at, digits-below, from-digits-whole, from-below, digits-from}
+use Rattle.octets.proofs.Digits.{from-digits-whole, from-below, digits-from}
 use Rattle.octets.proofs.Parts.{length-parts}
 use Rattle.packed_string.specs.declared.Mode.{Mode}
 use Rattle.packed_string.specs.declared.Mode.the-variants.{Crate, Standard}
-use Rattle.packed_string.specs.Text.{codeOf, charOf, charsAt, bytesAt, packGroup, unpackGroup, packedGroup, unpackedGroup, packed, unpacked}
+use Rattle.packed_string.specs.Text.{codeOf, packGroup, unpackGroup, packedGroup, unpackedGroup, packed, unpacked}
 
 -- three digits base 256 of four digits base 64, byte by byte
 pub pack-group : (a b c d : ℕ) → a < 64 → b < 64 → c < 64 → d < 64 → (a * 4 + b / 16) ∷ (b % 16 * 16 + c / 4) ∷ (c % 4 * 64 + d) ∷ [] ≡ packGroup (a ∷ b ∷ c ∷ d ∷ [])
@@ -44,27 +44,6 @@ group-back a b c d ha hb hc hd =
 pub code-below : (m : Mode) (c : ℕ) → codeOf m c < 64
 code-below Crate c = omega arith
 code-below Standard c = omega arith
-
-pub unpacked-below : (bytes : List ℕ) {codes : List ℕ} → codes ≡ unpackGroup bytes → (i : ℕ) → getD codes i 0 < 64
-unfolding unpackGroup
-unpacked-below bytes e i = rw e (below-at 64 (digits 64 4 (fromDigits 256 bytes)) (digits-below 64 4 (fromDigits 256 bytes) (lit< tt)) (lit< tt) i)
-
-module _ (m : Mode) (s : List ℕ) (g : ℕ) where
-  -- a group of the text from its four codes and the three bytes that they make
-  pub packed-group : {a b c d : ℕ} {bytes : List ℕ} → a ≡ codeOf m (getD s (g * 4) 0x20) → b ≡ codeOf m (getD s (g * 4 + 1) 0x20)
-      → c ≡ codeOf m (getD s (g * 4 + 2) 0x20) → d ≡ codeOf m (getD s (g * 4 + 3) 0x20) → bytes ≡ packGroup (a ∷ b ∷ c ∷ d ∷ [])
-      → getD bytes 0 0 ∷ getD bytes 1 0 ∷ getD bytes 2 0 ∷ [] ≡ packedGroup m s g
-  unfolding packGroup
-  packed-group {a} {b} {c} {d} ea eb ec ed e =
-      let codes : a ∷ b ∷ c ∷ d ∷ [] ≡ map (codeOf m) (charsAt s g) = cc in
-      ap (λ (l : List ℕ). getD l 0 0 ∷ getD l 1 0 ∷ getD l 2 0 ∷ []) (e ∙ ap packGroup codes)
-
-  -- a group of characters from the four codes that three bytes make
-  pub unpacked-group : {a b c d : ℕ} {codes : List ℕ} → codes ≡ unpackGroup (bytesAt s g) → a ≡ charOf m (getD codes 0 0) → b ≡ charOf m (getD codes 1 0)
-      → c ≡ charOf m (getD codes 2 0) → d ≡ charOf m (getD codes 3 0) → a ∷ b ∷ c ∷ d ∷ [] ≡ unpackedGroup m s g
-  unfolding unpackGroup
-  unpacked-group {codes = codes} e ea eb ec ed =
-      rw (ea, eb, ec, ed) (ap (λ (l : List ℕ). map (charOf m) (getD l 0 0 ∷ getD l 1 0 ∷ getD l 2 0 ∷ getD l 3 0 ∷ [])) e)
 
 module _ (m : Mode) (s : List ℕ) where
   pub packed-sized : (g : ℕ) → length (packedGroup m s g) ≡ 3

@@ -1,10 +1,10 @@
 -- What was written reads back: each character as `readBack` says, the last group filled with spaces; and a character of 0x20 to 0x5F as
 -- itself, in both modes.
-use Prim.Native.Nat.{ℕ, zero, suc, _+_, _*_, _-_, _/_, _%_, _≤_, min}
+use Prim.Native.Nat.{ℕ, zero, suc, _+_, _*_, _-_, _/_, _%_, _≤_, _<_, min}
 use native.Mathlib.Nat.{add-zero, min-eq-left}
 use native.Mathlib.Omega.{arith}
 use mathlib.Core.Path.{_≡_, refl, sym, ap, ap₂, _∙_}
-use mathlib.Core.Bool.{Bool, true, false, cond}
+use mathlib.Core.Bool.{Bool, true, false}
 use mathlib.Core.List.{List, [], _∷_, _++_, map, append-assoc, append-nil, map-append}
 use lib.ListN.{length, take, drop, getD, replicate, length-append, length-replicate}
 use lib.Seq.{drop-cons, take-add, take-all, getD-append-add}
@@ -114,27 +114,27 @@ text-back m text =
     let g = groups (length text) in
     ap (λ (l : List ℕ). unpacked m l g) (sym (append-nil (packed m text g))) ∙ groups-back m text g [] ∙ ap (map (readBack m)) (characters-filled text)
 
--- a character of 0x20 to 0x5F reads back as itself
-standard-back : (c : ℕ) (t : Bool) → 0x20 ≤ c → c ≤ 0x5F → ltb (c % 64) 32 ≡ t → cond t (c % 64 + 64) (c % 64) ≡ c
-standard-back c true l h e = omega (arith, ltb-true (c % 64) 32 e)
-standard-back c false l h e = omega (arith, ltb-false (c % 64) 32 e)
+-- the two ways in which standard mode reads a code
+standard-case : (k : ℕ) {X : Type 0} → (k < 32 → charOf Standard k ≡ k + 64 → X) → (32 ≤ k → charOf Standard k ≡ k → X) → X
+standard-case k {X} letter other = by (ltb k 32) refl
+  where
+    by : (t : Bool) → ltb k 32 ≡ t → X
+    by true e = letter (ltb-true k 32 e) (rw e)
+    by false e = other (ltb-false k 32 e) (rw e)
 
-pub character-back : (m : Mode) (c : ℕ) → 0x20 ≤ c → c ≤ 0x5F → readBack m c ≡ c
-character-back Crate c l h = omega arith
-character-back Standard c l h = standard-back c (ltb (c % 64) 32) l h refl
+-- a character of 0x20 to 0x5F reads back as itself
+pub character-back : (m : Mode) (c : ℕ) → Coded c → readBack m c ≡ c
+character-back Crate c k = omega arith
+character-back Standard c k = standard-case (c % 64) (λ l e. e ∙ omega arith) (λ l e. e ∙ omega arith)
 
 -- and whatever was written reads as such a character: any other comes back as another
 pub back-coded : (m : Mode) (c : ℕ) → Coded (readBack m c)
 back-coded Crate c = omega arith
-back-coded Standard c = by (ltb (c % 64) 32) refl
-  where
-    by : (t : Bool) → ltb (c % 64) 32 ≡ t → Coded (cond t (c % 64 + 64) (c % 64))
-    by true e = omega (arith, ltb-true (c % 64) 32 e)
-    by false e = omega (arith, ltb-false (c % 64) 32 e)
+back-coded Standard c = standard-case (c % 64) (λ l e. rw e (omega arith)) (λ l e. rw e (omega arith))
 
 pub plain-back : (m : Mode) (text : List ℕ) → Plain text → map (readBack m) text ≡ text
 plain-back m [] p = refl
-plain-back m (c ∷ text) p = ap₂ _∷_ (character-back m c (p .0 .0) (p .0 .1)) (plain-back m text (p .1))
+plain-back m (c ∷ text) p = ap₂ _∷_ (character-back m c (p .0)) (plain-back m text (p .1))
 
 pub plain-filled : (text : List ℕ) (k : ℕ) → Plain text → Plain (text ++ replicate k 0x20)
 plain-filled [] zero p = tt

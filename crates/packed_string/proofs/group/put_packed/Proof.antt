@@ -1,15 +1,26 @@
 -- Three stores put the bytes of the group.
-use Prim.Native.Nat.{_+_, _*_}
+use Prim.Native.Nat.{ℕ, _+_, _*_}
 use native.Mathlib.Omega.{arith}
-use mathlib.Core.Path.{ap, _∙_}
-use mathlib.Core.List.{[], _∷_}
+use mathlib.Core.Path.{_≡_, ap, _∙_}
+use mathlib.Core.List.{List, [], _∷_, map}
 use lib.ListN.{getD, length-set}
 use borrow.Author.Needs.{needs}
 use Rattle.octets.specs.Put.{put}
 use Rattle.octets.proofs.Put.{stores-put}
-use Rattle.packed_string.proofs.Groups.{code-below, packed-group}
+use Rattle.packed_string.specs.declared.Mode.{Mode}
+use Rattle.packed_string.specs.Text.{codeOf, charsAt, packGroup, packedGroup}
+use Rattle.packed_string.proofs.Groups.{code-below}
 use Rattle.packed_string.proofs.group.put_packed.Statement.{statement}
 use Rattle.packed_string.proofs.group.put_packed.Tie as tie
+
+-- the group from its four codes and the three bytes that they make
+packed-group : (m : Mode) (s : List ℕ) (g : ℕ) {a b c d : ℕ} {bytes : List ℕ} → a ≡ codeOf m (getD s (g * 4) 0x20) → b ≡ codeOf m (getD s (g * 4 + 1) 0x20)
+    → c ≡ codeOf m (getD s (g * 4 + 2) 0x20) → d ≡ codeOf m (getD s (g * 4 + 3) 0x20) → bytes ≡ packGroup (a ∷ b ∷ c ∷ d ∷ [])
+    → getD bytes 0 0 ∷ getD bytes 1 0 ∷ getD bytes 2 0 ∷ [] ≡ packedGroup m s g
+unfolding packGroup
+packed-group m s g {a} {b} {c} {d} ea eb ec ed e =
+    let codes : a ∷ b ∷ c ∷ d ∷ [] ≡ map (codeOf m) (charsAt s g) = cc in
+    ap (λ (l : List ℕ). getD l 0 0 ∷ getD l 1 0 ∷ getD l 2 0 ∷ []) (e ∙ ap packGroup codes)
 
 mul-base : tie.Need-mul-base
 mul-base c = search needs
