@@ -1,14 +1,30 @@
--- Document 01, 'Examples': those marked (P), as one list that grows with the parts that are built; here, packed text. Each has what the
--- definitions make of it and what document 01 says.
+-- Document 01, 'Examples': those marked (P), as one list that grows with the parts that are built; here, packed text and what a decoder
+-- reads. Each has what the definitions make of it and what document 01 says.
 use Prim.Native.Nat.{ℕ}
-use mathlib.Core.List.{List, [], _∷_}
+use mathlib.Core.Bool.{false}
+use mathlib.Core.List.{List, [], _∷_, _++_}
 use lib.ListN.{replicate}
 use Rattle.refusal.specs.Outcome.{Outcome, ends, done, refused}
 use Rattle.packed_string.specs.Text.{cratePacked, crateUnpacked, standardPacked}
+use Rattle.types.specs.declared.delimiter.FrameType.the-variants.{Request}
+use Rattle.types.specs.declared.address.MasterRole.the-variants.{Primary}
+use Rattle.types.specs.declared.address.Address.{Address}
+use Rattle.types.specs.declared.address.Address.the-variants.{Short, Long}
+use Rattle.line.specs.Layout.{preambles}
+use Rattle.line.specs.Events.{silence, refusal}
+use Rattle.line.specs.Runs as runs
+use Rattle.framing.specs.Frames.{padded, heardOf}
+use Rattle.framing.specs.Feed.{fresh}
+use Rattle.framing.specs.Demand.{hears}
+use Rattle.framing.specs.declared.state.State.{State}
+use Rattle.framing.specs.declared.state.State.the-variants.{Hunting}
+use Rattle.framing.specs.declared.frame.Heard.{Heard}
+use Rattle.framing.specs.declared.frame.Answer.the-variants.{Found}
 
--- What an example shows. Frames and answers will join outcomes here, so that the list stays one.
+-- What an example shows: what a call comes to; or what is heard at each byte of a run, and where the decoder then stands.
 pub data Shown : Type 0 where
   outcome : Outcome → Shown
+  heard : List Heard → State → Shown
 
 pub record Example : Type 0 where
   pub comes : Shown
@@ -38,5 +54,87 @@ a-crate = record { comes = outcome (crateUnpacked (left (cratePacked (0x61 ∷ [
 abbrev a-standard : Example
 a-standard = record { comes = outcome (standardPacked (0x61 ∷ []) (room 3)); said = outcome (ends (refused 7 (0 ∷ [])) (room 3)) }
 
+-- a new decoder is fed a run: so many silent bytes, then what is said, and then it is hunting again
+pub record Reading : Type 0 where
+  pub run : List ℕ
+  pub quiet : ℕ
+  pub then : List Heard
+
+abbrev pub reading : Reading → Example
+reading r = record {
+  comes = heard (runs.says hears fresh (r .run)) (runs.ends hears fresh (r .run) .state);
+  said = heard (replicate (r .quiet) (heardOf silence) ++ r .then) Hunting;
+}
+
+abbrev request : Address → ℕ → List ℕ → ℕ → Heard
+request address command payload n = record {
+  answer = Found;
+  frame = record {
+    «frame_type» = Request;
+    address = address;
+    command = command;
+    «data» = padded 255 payload;
+    length = n;
+  };
+}
+
+-- request, primary, polling 0, command 0, no data
+abbrev request-0 : Heard
+request-0 = request (Short Primary false 0) 0 [] 0
+
+abbrev pub request-0-behind : ℕ → ℕ → Reading
+request-0-behind n quiet = record { run = preambles n ++ (0x02 ∷ 0x80 ∷ 0x00 ∷ 0x00 ∷ 0x82 ∷ []); quiet = quiet; then = request-0 ∷ [] }
+
+abbrev pub wrong-check : Reading
+wrong-check = record {
+  run = preambles 5 ++ (0x02 ∷ 0x80 ∷ 0x00 ∷ 0x00 ∷ 0x83 ∷ []);
+  quiet = 9;
+  then = heardOf (refusal 5 (0x82 ∷ 0x83 ∷ [])) ∷ [];
+}
+
+abbrev pub four-preambles : Reading
+four-preambles = record { run = preambles 4 ++ (0x02 ∷ []); quiet = 5; then = [] }
+
+abbrev pub no-delimiter : Reading
+no-delimiter = record { run = preambles 5 ++ (0x03 ∷ []); quiet = 5; then = heardOf (refusal 4 (0x03 ∷ [])) ∷ [] }
+
+-- a check byte FF, and four FF behind it: no five
+abbrev pub check-no-preamble : Reading
+check-no-preamble = record {
+  run = preambles 5 ++ (0x02 ∷ 0x80 ∷ 0x00 ∷ 0x00 ∷ 0xFF ∷ (preambles 4 ++ (0x02 ∷ [])));
+  quiet = 9;
+  then = heardOf (refusal 5 (0x82 ∷ 0xFF ∷ [])) ∷ replicate 5 (heardOf silence);
+}
+
+-- the same with a right check that is FF, which document 01 does not list
+abbrev pub right-check-no-preamble : Reading
+right-check-no-preamble = record {
+  run = preambles 5 ++ (0x02 ∷ 0x80 ∷ 0x7D ∷ 0x00 ∷ 0xFF ∷ (preambles 4 ++ (0x02 ∷ [])));
+  quiet = 9;
+  then = request (Short Primary false 0) 0x7D [] 0 ∷ replicate 5 (heardOf silence);
+}
+
+-- long, primary, manufacturer 26h, type 0Ah, number 010203h, command 9, data 00 01
+abbrev pub long-request : Reading
+long-request = record {
+  run = preambles 5 ++ (0x82 ∷ 0xA6 ∷ 0x0A ∷ 0x01 ∷ 0x02 ∷ 0x03 ∷ 0x09 ∷ 0x02 ∷ 0x00 ∷ 0x01 ∷ 0x24 ∷ []);
+  quiet = 15;
+  then = request (Long Primary false 0x26 0x0A 0x010203) 9 (0x00 ∷ 0x01 ∷ []) 2 ∷ [];
+}
+
 abbrev pub examples : List Example
-examples = test-crate ∷ test-standard ∷ a-crate ∷ a-standard ∷ []
+examples =
+    reading (request-0-behind 5 9)
+    ∷ reading wrong-check
+    ∷ reading four-preambles
+    ∷ reading no-delimiter
+    ∷ reading check-no-preamble
+    ∷ reading right-check-no-preamble
+    ∷ reading (request-0-behind 256 260)
+    ∷ reading (request-0-behind 700 704)
+    ∷ reading long-request
+    ∷ test-crate
+    ∷ test-standard
+    ∷ a-crate
+    ∷ a-standard
+    ∷ []

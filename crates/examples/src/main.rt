@@ -1,10 +1,14 @@
 // Runs document 01's examples of the parts that are built, and the boundaries beside them, and says
 // of each whether it came out as 01 has it. Those marked (P) are proved too: proofs/Paper.antt.
+mod constants;
+mod reading;
 mod report;
 mod text;
 
 fn main() {
     let packed = text::crate_mode();
     let standard = text::standard_mode();
-    report::print_verdict(packed & standard);
+    let numbers = constants::numbers();
+    let read = reading::runs();
+    report::print_verdict(packed & standard & numbers & read);
 }

@@ -100,12 +100,16 @@ pub(crate) fn came_out(
     print(b", buffer");
     print_bytes(buffer);
     let right = same_answer(answer, wanted) & check::same(buffer, wanted_buffer);
+    print_right(right);
+    right
+}
+
+pub(crate) fn print_right(right: bool) {
     if right {
         print(b"  ok\n");
     } else {
         print(b"  WRONG\n");
     }
-    right
 }
 
 pub(crate) fn print_verdict(right: bool) {

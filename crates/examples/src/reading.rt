@@ -1,0 +1,326 @@
+// Document 01, 'How a run of bytes is cut': runs fed to one lent decoder. Nothing may be heard before
+// a run's last byte, and there what document 01 says.
+use crate::report::print;
+use crate::report::print_bytes;
+use crate::report::print_number;
+use crate::report::print_right;
+use framing::Answer;
+use framing::Decoder;
+use framing::Frame;
+use framing::Heard;
+use framing::State;
+use refusal::Refusal;
+use types::Address;
+use types::FrameType;
+use types::MasterRole;
+ghost use Prim.Native.Nat.{_+_, _≤_};
+ghost use lib.ListN.{length};
+
+// The longest run here: 700 FF and a frame.
+const ROOM: usize = 720;
+
+fn print_frame_type(frame_type: FrameType) {
+    match frame_type {
+        FrameType::Request => print(b"request"),
+        FrameType::Response => print(b"response"),
+        FrameType::Burst => print(b"burst"),
+    }
+}
+
+fn print_master(master: MasterRole, burst: bool) {
+    match master {
+        MasterRole::Primary => print(b", primary"),
+        MasterRole::Secondary => print(b", secondary"),
+    }
+    if burst {
+        print(b", in burst mode");
+    }
+}
+
+fn print_address(address: Address) {
+    match address {
+        Address::Short {
+            master,
+            burst,
+            poll_address,
+        } => {
+            print_master(master, burst);
+            print(b", polling ");
+            print_number(poll_address as usize);
+        }
+        Address::Long {
+            master,
+            burst,
+            manufacturer_id,
+            device_type,
+            device_id,
+        } => {
+            print_master(master, burst);
+            print(b", manufacturer ");
+            print_number(manufacturer_id as usize);
+            print(b", type ");
+            print_number(device_type as usize);
+            print(b", number ");
+            print_number(device_id as usize);
+        }
+    }
+}
+
+fn print_first(bytes: &[u8], n: usize) {
+    if bytes.len() < n {
+        return;
+    }
+    print_bytes(&bytes[..n]);
+}
+
+fn print_frame(frame: Frame) {
+    let frame_type = frame.frame_type;
+    let address = frame.address;
+    let data = frame.data;
+    let length = frame.length as usize;
+    print_frame_type(frame_type);
+    print_address(address);
+    print(b", command ");
+    print_number(frame.command as usize);
+    if length == 0 {
+        print(b", no data");
+        return;
+    }
+    print(b", data");
+    print_first(&data, length);
+}
+
+// A refusal's number and the bytes that it carries.
+pub(crate) struct Reason {
+    pub(crate) number: u32,
+    pub(crate) first: u8,
+    pub(crate) second: u8,
+}
+
+fn reason_of(refusal: Refusal) -> Reason {
+    let number = refusal.number();
+    match refusal {
+        Refusal::InvalidDelimiter(byte) => Reason {
+            number,
+            first: byte,
+            second: 0,
+        },
+        Refusal::ChecksumMismatch { expected, actual } => Reason {
+            number,
+            first: expected,
+            second: actual,
+        },
+        _ => Reason {
+            number,
+            first: 0,
+            second: 0,
+        },
+    }
+}
+
+fn print_reason(reason: Reason) {
+    print(b"refused ");
+    print_number(reason.number as usize);
+    if reason.number == 8 {
+        return;
+    }
+    print(b" with");
+    print_bytes(&[reason.first]);
+    if reason.number == 5 {
+        print_bytes(&[reason.second]);
+    }
+}
+
+fn print_heard(heard: Heard) {
+    let answer = heard.answer;
+    match answer {
+        Answer::Silence => print(b"silence"),
+        Answer::Found => {
+            let frame = heard.frame;
+            print_frame(frame);
+        }
+        Answer::Refused(refusal) => print_reason(reason_of(refusal)),
+    }
+}
+
+fn put(run: &mut [u8], at: usize, bytes: &[u8])
+    requires { ⌜ at + length (now bytes) ≤ length (now run) ⌝ }
+{
+    let mut i: usize = 0;
+    while i < bytes.len() {
+        run[at + i] = bytes[i];
+        i += 1;
+    }
+}
+
+fn heard_of(run: &[u8], end: usize) -> Heard {
+    if run.len() < end {
+        return lent::listen(run, 0);
+    }
+    lent::listen(&run[..end], 0)
+}
+
+// What is heard first in the front of a run of so many FF, these bytes, and FF.
+fn behind(preambles: usize, bytes: &[u8], end: usize) -> Heard {
+    let mut run = [0xFFu8; ROOM];
+    if preambles <= ROOM {
+        if bytes.len() <= ROOM - preambles {
+            put(&mut run, preambles, bytes);
+            return heard_of(&run, end);
+        }
+    }
+    heard_of(&run, 0)
+}
+
+fn is_silence(answer: Answer) -> bool {
+    match answer {
+        Answer::Silence => true,
+        Answer::Found => false,
+        Answer::Refused(_) => false,
+    }
+}
+
+// Feeds the run, says what is heard at its last byte, and tells whether nothing was heard before it.
+fn shown(preambles: usize, bytes: &[u8]) -> bool {
+    let n = bytes.len();
+    if n < 1 {
+        return false;
+    }
+    if ROOM < preambles {
+        return false;
+    }
+    if ROOM - preambles < n {
+        return false;
+    }
+    print(b"FF x");
+    print_number(preambles);
+    print(b",");
+    print_bytes(bytes);
+    print(b": ");
+    print_heard(behind(preambles, bytes, preambles + n));
+    let earlier = behind(preambles, bytes, preambles + n - 1);
+    let answer = earlier.answer;
+    is_silence(answer)
+}
+
+fn last_heard(preambles: usize, bytes: &[u8]) -> Heard {
+    if ROOM < preambles {
+        return behind(0, bytes, ROOM);
+    }
+    if ROOM < bytes.len() {
+        return behind(0, bytes, ROOM);
+    }
+    behind(preambles, bytes, preambles + bytes.len())
+}
+
+fn silent(preambles: usize, bytes: &[u8]) -> bool {
+    let earlier = shown(preambles, bytes);
+    let heard = last_heard(preambles, bytes);
+    let answer = heard.answer;
+    let right = earlier & is_silence(answer);
+    print_right(right);
+    right
+}
+
+fn is_refused(answer: Answer, number: u32, first: u8, second: u8) -> bool {
+    match answer {
+        Answer::Silence => false,
+        Answer::Found => false,
+        Answer::Refused(refusal) => {
+            let reason = reason_of(refusal);
+            (reason.number == number) & (reason.first == first) & (reason.second == second)
+        }
+    }
+}
+
+fn refused(preambles: usize, bytes: &[u8], number: u32, first: u8, second: u8) -> bool {
+    let earlier = shown(preambles, bytes);
+    let heard = last_heard(preambles, bytes);
+    let answer = heard.answer;
+    let right = earlier & is_refused(answer, number, first, second);
+    print_right(right);
+    right
+}
+
+fn is_found(answer: Answer) -> bool {
+    match answer {
+        Answer::Silence => false,
+        Answer::Found => true,
+        Answer::Refused(_) => false,
+    }
+}
+
+// The rest of the frame is printed, and what is printed is held to the stored text.
+fn found(preambles: usize, bytes: &[u8], command: u8, length: u8) -> bool {
+    let earlier = shown(preambles, bytes);
+    let heard = last_heard(preambles, bytes);
+    let answer = heard.answer;
+    let frame = heard.frame;
+    let right = earlier & is_found(answer) & (frame.command == command) & (frame.length == length);
+    print_right(right);
+    right
+}
+
+fn is_preamble(state: State, n: u8) -> bool {
+    if let State::Preamble(count) = state {
+        count == n
+    } else {
+        false
+    }
+}
+
+fn frames() -> bool {
+    let request = b"\x02\x80\x00\x00\x82";
+    let a = found(5, request, 0, 0);
+    let b = found(255, request, 0, 0);
+    let c = found(256, request, 0, 0);
+    let d = found(260, request, 0, 0);
+    let e = found(700, request, 0, 0);
+    let f = found(5, b"\x82\xA6\x0A\x01\x02\x03\x09\x02\x00\x01\x24", 9, 2);
+    let g = found(5, b"\x06\xB3\x01\x02\x00\x40\xF6", 1, 2);
+    let h = found(5, b"\x02\x80\x7D\x00\xFF", 0x7D, 0);
+    let i = found(5, b"\x81\x40\x01\x00\x00\x00\x02\x01\x07\xC4", 2, 1);
+    a & b & c & d & e & f & g & h & i
+}
+
+fn refusals() -> bool {
+    let a = refused(5, b"\x02\x80\x00\x00\x83", 5, 0x82, 0x83);
+    let b = refused(5, b"\x03", 4, 0x03, 0);
+    let c = refused(256, b"\x03", 4, 0x03, 0);
+    let d = refused(5, b"\x02\x80\x00\x00\xFF", 5, 0x82, 0xFF);
+    a & b & c & d
+}
+
+fn silences() -> bool {
+    let a = silent(4, b"\x02");
+    let b = silent(4, b"\x02\x80\x00\x00\x82");
+    let c = silent(1, b"\x03");
+    let d = silent(0, b"\x02");
+    a & b & c & d
+}
+
+// A value that no run leads to: refused with 8, and not changed.
+fn six_preambles() -> bool {
+    let decoder = Decoder {
+        state: State::Preamble(6),
+        bytes: [0u8; 260],
+    };
+    print(b"a decoder that counts six FF, fed 02: ");
+    let fed = decoder.feed(0x02);
+    let heard = fed.heard;
+    let answer = heard.answer;
+    print_heard(heard);
+    let next = fed.next;
+    let state = next.state;
+    let right = is_refused(answer, 8, 0, 0) & is_preamble(state, 6);
+    print_right(right);
+    right
+}
+
+pub(crate) fn runs() -> bool {
+    let a = frames();
+    let b = refusals();
+    let c = silences();
+    let d = six_preambles();
+    a & b & c & d
+}

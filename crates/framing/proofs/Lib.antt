@@ -1,0 +1,9 @@
+pub mod Zeros
+pub mod Claims
+pub mod Padded
+pub mod Image
+pub mod Demand
+pub mod Exact
+pub mod SourceAddress
+pub mod Source
+pub mod Determined

@@ -1,0 +1,283 @@
+-- The scanner takes a run apart: what it gives along the way and what it holds at the end are a cut.
+use Prim.Native.Nat.{ℕ, zero, suc, _+_, _-_, _≤_, _<_}
+use native.Mathlib.Omega.{arith}
+use native.Mathlib.Decide.{decLe}
+use mathlib.Core.Path.{_≡_, refl, sym, ap, subst, _∙_}
+use mathlib.Core.Logic.{_≢_}
+use mathlib.Core.Bool.{Bool, true, false, cond}
+use mathlib.Core.Option.{Option, none, some}
+use mathlib.Core.List.{List, [], _∷_, _++_, append-nil, append-assoc, cons≢nil}
+use lib.ListN.{length, replicate, length-append, length-replicate, replicate-append-replicate}
+use lib.Seq.{append-snoc}
+use lib.Dec.{eqb, leb}
+use borrow.Author.Tests.{eqb-true, eqb-false, leb-true, leb-false}
+use Rattle.octets.proofs.Check.{check-below}
+use Rattle.types.specs.declared.delimiter.Delimiter.{Delimiter}
+use Rattle.types.specs.declared.delimiter.Delimiter.the-variants.{Known, Unknown}
+use Rattle.types.specs.Delimiter.{delimiter, delimiterOf}
+use Rattle.types.specs.Address.{addressLength}
+use Rattle.types.proofs.Delimiters.{Right, delimiter-right, delimiter-small}
+use Rattle.line.specs.Layout.{Wire, Fits, preambles, body, checkOf}
+use Rattle.line.specs.Pieces.{
+  Piece,
+  noise,
+  shortRun,
+  badDelimiter,
+  frame,
+  badCheck,
+  Holds,
+  bytesOf,
+  Bytes,
+  Tail,
+  joined,
+  Rest,
+  nothing,
+  tail,
+  Cut,
+}
+use Rattle.line.specs.Runs.{ends}
+use Rattle.line.proofs.Scan.{
+  Phase,
+  addressing,
+  commanding,
+  counting,
+  loading,
+  checking,
+  Scan,
+  hunt,
+  pre,
+  within,
+  wire,
+  scanWithin,
+  scanEnter,
+  scan,
+  opened,
+  held,
+  Sized,
+  Fine,
+}
+use Rattle.line.proofs.Steps.{steps-ends, address-some, held-steps}
+use Rattle.line.proofs.Bytes.{bytes-append, bytes-right, bytes-replicate}
+
+abbrev bytesOut : Option Piece → List ℕ
+bytesOut none = []
+bytesOut (some p) = bytesOf p
+
+abbrev HoldsOut : Option Piece → Type 0
+HoldsOut none = Unit {0}
+HoldsOut (some p) = Holds p
+
+-- one byte more: the state is fine again, a piece that is given holds, and no byte is lost
+record Sound (s : Scan) (b : ℕ) (r : Scan × Option Piece) : Type 0 where
+  fine : Fine (r .0)
+  out : HoldsOut (r .1)
+  kept : bytesOut (r .1) ++ held (r .0) ≡ held s ++ (b ∷ [])
+
+-- bytes behind the address
+behind : (d : ℕ) (ad xs ys : List ℕ) → d ∷ (ad ++ (xs ++ ys)) ≡ (d ∷ (ad ++ xs)) ++ ys
+behind d ad xs ys = ap (λ (bs : List ℕ). d ∷ bs) (sym (append-assoc ad xs ys))
+
+-- inside a frame
+module _ (n b : ℕ) (enough : 5 ≤ n) (small : b < 256) where
+  sound-on : (p q : Phase) → Bytes (opened p) → Sized q → opened q ≡ opened p ++ (b ∷ []) → Sound (within n p) b (within n q, none)
+  sound-on p q k z e =
+      record {
+        fine = (enough, z, subst Bytes (sym e) (bytes-append (opened p) (b ∷ []) k (small, tt)));
+        out = tt;
+        kept = rw e (sym (append-assoc (preambles n) (opened p) (b ∷ [])));
+      }
+
+  sound-within : (p : Phase) → Sized p → Bytes (opened p) → Sound (within n p) b (scanWithin n p b)
+  unfolding scanWithin
+  sound-within (addressing t l ad) z k = by (eqb (length (ad ++ (b ∷ []))) (addressLength l)) refl
+    where
+      longer : length (ad ++ (b ∷ [])) ≡ length ad + 1
+      longer = length-append ad (b ∷ [])
+
+      by : (y : Bool) → eqb (length (ad ++ (b ∷ []))) (addressLength l) ≡ y
+          → Sound (within n (addressing t l ad)) b (cond y (within n (commanding t l (ad ++ (b ∷ [])))) (within n (addressing t l (ad ++ (b ∷ [])))), none)
+      by true e = sound-on (addressing t l ad) (commanding t l (ad ++ (b ∷ []))) k (eqb-true (length (ad ++ (b ∷ []))) (addressLength l) e) refl
+      by false e =
+          sound-on (addressing t l ad) (addressing t l (ad ++ (b ∷ []))) k
+          (omega (arith, z, longer, eqb-false (length (ad ++ (b ∷ []))) (addressLength l) e)) refl
+  sound-within (commanding t l ad) z k = sound-on (commanding t l ad) (counting t l ad b) k z refl
+  sound-within (counting t l ad c) z k = by (eqb 0 b) refl
+    where
+      by : (y : Bool) → eqb 0 b ≡ y → Sound (within n (counting t l ad c)) b (cond y (within n (checking (wire t l ad c []))) (within n (loading t l ad c b [])), none)
+      by true e =
+          sound-on (counting t l ad c) (checking (wire t l ad c [])) k (record { addressed = z; counted = omega arith })
+          (rw (sym (eqb-true 0 b e)) (behind (delimiter t l) ad (c ∷ []) (0 ∷ [])))
+      by false e =
+          sound-on (counting t l ad c) (loading t l ad c b []) k (z, omega (arith, eqb-false 0 b e)) (behind (delimiter t l) ad (c ∷ []) (b ∷ []))
+  sound-within (loading t l ad c m ds) z k = by (eqb (length (ds ++ (b ∷ []))) m) refl
+    where
+      longer : length (ds ++ (b ∷ [])) ≡ length ds + 1
+      longer = length-append ds (b ∷ [])
+
+      count-small : m < 256
+      count-small = bytes-right ad (c ∷ m ∷ ds) (k .1) .1 .0
+
+      by : (y : Bool) → eqb (length (ds ++ (b ∷ []))) m ≡ y
+          → Sound (within n (loading t l ad c m ds)) b (cond y (within n (checking (wire t l ad c (ds ++ (b ∷ []))))) (within n (loading t l ad c m (ds ++ (b ∷ [])))), none)
+      by true e =
+          let full : length (ds ++ (b ∷ [])) ≡ m = eqb-true (length (ds ++ (b ∷ []))) m e in
+          sound-on (loading t l ad c m ds) (checking (wire t l ad c (ds ++ (b ∷ [])))) k (record { addressed = z .0; counted = omega (arith, full, count-small) })
+          (ap (λ (j : ℕ). delimiter t l ∷ (ad ++ (c ∷ j ∷ (ds ++ (b ∷ []))))) full ∙ behind (delimiter t l) ad (c ∷ m ∷ ds) (b ∷ []))
+      by false e =
+          sound-on (loading t l ad c m ds) (loading t l ad c m (ds ++ (b ∷ []))) k
+          (z .0, omega (arith, z .1, longer, eqb-false (length (ds ++ (b ∷ []))) m e)) (behind (delimiter t l) ad (c ∷ m ∷ ds) (b ∷ []))
+  sound-within (checking w) z k = by (eqb b (checkOf w)) refl
+    where
+      by : (y : Bool) → eqb b (checkOf w) ≡ y → Sound (within n (checking w)) b (hunt, some (cond y (frame n w) (badCheck n w b)))
+      by true e = record { fine = tt; out = (enough, z); kept = append-nil (bytesOf (frame n w)) ∙ rw (sym (eqb-true b (checkOf w) e)) }
+      by false e = record { fine = tt; out = (enough, z, eqb-false b (checkOf w) e); kept = append-nil (bytesOf (badCheck n w b)) }
+
+sound-enter : (n b : ℕ) → 5 ≤ n → b < 256 → b ≢ 0xFF → (d : Delimiter) → Right b d → Sound (pre n) b (scanEnter n b d)
+sound-enter n b h k other (Known t l) q =
+    record { fine = (h, address-some l, (rw (sym q) k, tt)); out = tt; kept = ap (λ (d : ℕ). preambles n ++ (d ∷ [])) (sym q) }
+sound-enter n b h k other Unknown q = record { fine = tt; out = (h, other, q); kept = append-nil (preambles n ++ (b ∷ [])) }
+
+preambles-snoc : (n : ℕ) → preambles (suc n) ≡ preambles n ++ (0xFF ∷ [])
+preambles-snoc zero = refl
+preambles-snoc (suc n) = ap (λ (bs : List ℕ). 0xFF ∷ bs) (preambles-snoc n)
+
+sound : (s : Scan) (b : ℕ) → Fine s → b < 256 → Sound s b (scan s b)
+unfolding scan
+sound hunt b f k = by (eqb b 0xFF) refl
+  where
+    by : (y : Bool) → eqb b 0xFF ≡ y → Sound hunt b (cond y (pre 1, none) (hunt, some (noise b)))
+    by true e = record { fine = omega arith; out = tt; kept = ap (λ (d : ℕ). d ∷ []) (sym (eqb-true b 0xFF e)) }
+    by false e = record { fine = tt; out = eqb-false b 0xFF e; kept = refl }
+sound (pre n) b f k = by (eqb b 0xFF) refl
+  where
+    by′ : (y : Bool) → b ≢ 0xFF → leb 5 n ≡ y → Sound (pre n) b (cond y (scanEnter n b (delimiterOf b)) (hunt, some (shortRun n b)))
+    by′ true other e = sound-enter n b (leb-true 5 n e) k other (delimiterOf b) (delimiter-right b)
+    by′ false other e = record { fine = tt; out = (f, omega (arith, leb-false 5 n e), other); kept = append-nil (preambles n ++ (b ∷ [])) }
+
+    by : (y : Bool) → eqb b 0xFF ≡ y → Sound (pre n) b (cond y (pre (suc n), none) (cond (leb 5 n) (scanEnter n b (delimiterOf b)) (hunt, some (shortRun n b))))
+    by true e = record { fine = omega arith; out = tt; kept = rw (eqb-true b 0xFF e) (preambles-snoc n) }
+    by false e = by′ (leb 5 n) (eqb-false b 0xFF e) refl
+sound (within n p) b f k = sound-within n b (f .0) k p (f .1) (f .2)
+
+pub fine-scan : (s : Scan) (b : ℕ) → Fine s → b < 256 → Fine ((scan s b) .0)
+fine-scan s b f k = sound s b f k .fine
+
+pub fine-ends : (s : Scan) (bs : List ℕ) → Fine s → Bytes bs → Fine (ends scan s bs)
+fine-ends s [] f k = f
+fine-ends s (b ∷ bs) f k = fine-ends ((scan s b) .0) bs (fine-scan s b f (k .0)) (k .1)
+
+pub held-ends : (s : Scan) → Fine s → ends scan hunt (held s) ≡ s
+held-ends s f = rw append-nil at (steps-ends (held-steps s f) [])
+
+pub held-bytes : (s : Scan) → Fine s → Bytes (held s)
+held-bytes hunt f = tt
+held-bytes (pre n) f = bytes-replicate n 0xFF (omega arith)
+held-bytes (within n p) f = bytes-append (preambles n) (opened p) (bytes-replicate n 0xFF (omega arith)) (f .2)
+
+-- noughts and a check make a whole frame of an unfinished one
+record Finish (p : Phase) : Type 0 where
+  whole : Wire
+  fits : Fits whole
+  noughts : ℕ
+  begins : body whole ≡ opened p ++ replicate noughts 0
+
+finish : (p : Phase) → Sized p → Bytes (opened p) → Finish p
+finish (addressing t l ad) z k =
+    let j : ℕ = addressLength l - length ad in
+    record {
+      whole = wire t l (ad ++ replicate j 0) 0 [];
+      fits = record { addressed = length-append ad (replicate j 0) ∙ rw length-replicate (omega arith); counted = omega arith };
+      noughts = j + 2;
+      begins = ap (λ (bs : List ℕ). delimiter t l ∷ bs) (append-assoc ad (replicate j 0) (0 ∷ 0 ∷ []) ∙ ap (λ (bs : List ℕ). ad ++ bs) (replicate-append-replicate j 2 0));
+    }
+finish (commanding t l ad) z k = record { whole = wire t l ad 0 []; fits = record { addressed = z; counted = omega arith }; noughts = 2; begins = refl }
+finish (counting t l ad c) z k =
+    record { whole = wire t l ad c []; fits = record { addressed = z; counted = omega arith }; noughts = 1; begins = behind (delimiter t l) ad (c ∷ []) (0 ∷ []) }
+finish (loading t l ad c m ds) z k =
+    let j : ℕ = m - length ds in
+    let full : length (ds ++ replicate j 0) ≡ m = length-append ds (replicate j 0) ∙ rw length-replicate (omega arith) in
+    let count-small : m < 256 = bytes-right ad (c ∷ m ∷ ds) (k .1) .1 .0 in
+    record {
+      whole = wire t l ad c (ds ++ replicate j 0);
+      fits = record { addressed = z .0; counted = omega (arith, full, count-small) };
+      noughts = j;
+      begins = ap (λ (i : ℕ). delimiter t l ∷ (ad ++ (c ∷ i ∷ (ds ++ replicate j 0)))) full ∙ behind (delimiter t l) ad (c ∷ m ∷ ds) (replicate j 0);
+    }
+finish (checking w) z k = record { whole = w; fits = z; noughts = 0; begins = sym (append-nil (body w)) }
+
+snoc-nonempty : (bs : List ℕ) (b : ℕ) → bs ++ (b ∷ []) ≢ []
+snoc-nonempty [] b e = cons≢nil e
+snoc-nonempty (c ∷ bs) b e = cons≢nil e
+
+begun : (n : ℕ) (bs : List ℕ) → 1 ≤ n → preambles n ++ bs ≢ []
+begun zero bs h e = omega arith
+begun (suc n) bs h e = cons≢nil e
+
+regroup : (a b c d : List ℕ) → (a ++ b) ++ (c ++ d) ≡ (a ++ (b ++ c)) ++ d
+regroup a b c d = simp append-assoc
+
+-- what is held is nothing or a tail
+remains : (s : Scan) → Fine s → Rest (held s)
+remains hunt f = nothing
+remains (pre n) f = tail (by (decLe n 4))
+  where
+    nonempty′ : preambles n ≢ []
+    nonempty′ = rw append-nil at (begun n [] f)
+
+    by : Dec (n ≤ 4) → Tail (preambles n)
+    by (yes h) = record { nonempty = nonempty′; piece = shortRun n 0; holds = (f, h, omega arith); missing = 0 ∷ []; lacking = cons≢nil; small = (omega arith, tt); begins = refl }
+    by (no h) =
+        record {
+          nonempty = nonempty′;
+          piece = badDelimiter n 0;
+          holds = (omega arith, omega arith, λ t l. omega (arith, delimiter-small t l));
+          missing = 0 ∷ [];
+          lacking = cons≢nil;
+          small = (omega arith, tt);
+          begins = refl;
+        }
+remains (within n p) f =
+    let r = finish p (f .1) (f .2) in
+    let w = r .whole in
+    let zeros : List ℕ = replicate (r .noughts) 0 in
+    let zeros-small : Bytes zeros = bytes-replicate (r .noughts) 0 (omega arith) in
+    let body-small : Bytes (body w) = subst Bytes (sym (r .begins)) (bytes-append (opened p) zeros (f .2) zeros-small) in
+    tail (record {
+      nonempty = begun n (opened p) (omega arith);
+      piece = frame n w;
+      holds = (f .0, r .fits);
+      missing = zeros ++ (checkOf w ∷ []);
+      lacking = snoc-nonempty zeros (checkOf w);
+      small = bytes-append zeros (checkOf w ∷ []) zeros-small (check-below 0 (body w) (omega arith) body-small, tt);
+      begins = regroup (preambles n) (opened p) zeros (checkOf w ∷ []) ∙ ap (λ (bs : List ℕ). (preambles n ++ bs) ++ (checkOf w ∷ [])) (sym (r .begins));
+    })
+
+record Found (run : List ℕ) : Type 0 where
+  parts : List Piece
+  left : List ℕ
+  cut : Cut run parts left
+
+add : (o : Option Piece) (run : List ℕ) → HoldsOut o → Found run → Found (bytesOut o ++ run)
+add none run h found = found
+add (some p) run h found =
+    record {
+      parts = p ∷ found .parts;
+      left = found .left;
+      cut = record {
+        pieces = (h, found .cut .pieces);
+        rest = found .cut .rest;
+        whole = ap (λ (bs : List ℕ). bytesOf p ++ bs) (found .cut .whole) ∙ sym (append-assoc (bytesOf p) (joined (found .parts)) (found .left));
+      };
+    }
+
+find : (s : Scan) (bs : List ℕ) → Fine s → Bytes bs → Found (held s ++ bs)
+find s [] f k = rw append-nil (record { parts = []; left = held s; cut = record { pieces = tt; rest = remains s f; whole = refl } })
+find s (b ∷ bs) f k =
+    let w = sound s b f (k .0) in
+    let r = scan s b in
+    let e : held s ++ (b ∷ bs) ≡ bytesOut (r .1) ++ (held (r .0) ++ bs) =
+    sym (append-snoc (held s) b bs) ∙ ap (λ (cs : List ℕ). cs ++ bs) (sym (w .kept)) ∙ append-assoc (bytesOut (r .1)) (held (r .0)) bs in
+    rw e (add (r .1) (held (r .0) ++ bs) (w .out) (find (r .0) bs (w .fine) (k .1)))
+
+pub cut-exists : (run : List ℕ) → Bytes run → (ps : List Piece) × (t : List ℕ) × Cut run ps t
+cut-exists run h = let found = find hunt run tt h in (found .parts, found .left, found .cut)

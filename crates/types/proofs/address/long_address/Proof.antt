@@ -1,0 +1,47 @@
+-- `long_address` meets its contract.
+use lib.ListN.{getD}
+use lib.Bits.{and-mask}
+use borrow.Author.Needs.{needs}
+use Rattle.types.proofs.address.long_address.Statement.{statement}
+use Rattle.types.proofs.address.long_address.Tie as tie
+
+array-read-first : tie.Need-array-read-first
+array-read-first c = search needs
+
+master-of-requires : tie.Need-master-of-requires
+master-of-requires c κs = search needs
+
+burst-of-requires : tie.Need-burst-of-requires
+burst-of-requires c κs = search needs
+
+array-read-t11 : tie.Need-array-read-t11
+array-read-t11 c = search needs
+
+array-read-decode-u24-be : tie.Need-array-read-decode-u24-be
+array-read-decode-u24-be c = search needs
+
+array-read-decode-u24-be-2 : tie.Need-array-read-decode-u24-be-2
+array-read-decode-u24-be-2 c = search needs
+
+array-read-decode-u24-be-3 : tie.Need-array-read-decode-u24-be-3
+array-read-decode-u24-be-3 c = search needs
+
+decode-u24-be-requires : tie.Need-decode-u24-be-requires
+decode-u24-be-requires c κs = search needs
+
+returns : tie.Need-returns
+returns c = let a = c .before .before .before .args in cc (c .decode-u24-be .ensures, c .before .burst-of .ensures, c .before .before .master-of .ensures, and-mask (getD (a .t1) 0 0) 6)
+
+pub long-address-spec : {M : Type 1} → statement M
+long-address-spec =
+    tie.close
+    (tie.spec
+    array-read-first
+    master-of-requires
+    burst-of-requires
+    array-read-t11
+    array-read-decode-u24-be
+    array-read-decode-u24-be-2
+    array-read-decode-u24-be-3
+    decode-u24-be-requires
+    returns)

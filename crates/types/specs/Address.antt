@@ -1,0 +1,53 @@
+-- Document 01, 'Wire layout': what the bytes of an address say.
+use Prim.Native.Nat.{ℕ, _%_}
+use mathlib.Core.Bool.{Bool, true, false, cond}
+use mathlib.Core.List.{List, [], _∷_}
+use lib.ListN.{length, getD}
+use lib.Dec.{ltb}
+use Rattle.refusal.specs.Table.{numberOf, valuesOf}
+use Rattle.octets.specs.Digits.{fromDigits}
+use Rattle.types.specs.Bit.{bit}
+use Rattle.types.specs.declared.address.MasterRole.{MasterRole}
+use Rattle.types.specs.declared.address.MasterRole.the-variants.{Primary, Secondary}
+use Rattle.types.specs.declared.address.Address.{Address}
+use Rattle.types.specs.declared.address.Address.the-variants.{Short, Long}
+use Rattle.types.specs.declared.address.AddressRead.{AddressRead}
+use Rattle.types.specs.declared.address.AddressRead.the-variants.{Read, Refused}
+
+-- bytes of a short and of a long one
+abbrev pub addressLength : Bool → ℕ
+addressLength false = 1
+addressLength true = 5
+
+-- bit 7 of the first byte
+abbrev pub masterOf : ℕ → MasterRole
+masterOf first = cond (bit 7 first) Primary Secondary
+
+-- bit 6 burst; the low 4 bits are the polling address, and bits 5 and 4 say nothing
+abbrev pub shortAddress : ℕ → Address
+shortAddress first = Short (masterOf first) (bit 6 first) (first % 16)
+
+-- the low 6 bits are the manufacturer; then the device type, and the device number in three bytes
+abbrev pub longAddress : ℕ → ℕ → ℕ → ℕ → ℕ → Address
+longAddress first device high middle low = Long (masterOf first) (bit 6 first) (first % 64) device (fromDigits 256 (high ∷ middle ∷ low ∷ []))
+
+abbrev pub readAddress : Bool → List ℕ → Address
+readAddress false bs = shortAddress (getD bs 0 0)
+readAddress true bs = longAddress (getD bs 0 0) (getD bs 1 0) (getD bs 2 0) (getD bs 3 0) (getD bs 4 0)
+
+abbrev pub isLong : Address → Bool
+isLong (Short master burst polling) = false
+isLong (Long master burst manufacturer device number) = true
+
+-- what reading an address comes to: the address and the bytes it took, or a refusal's number and values
+pub data Reading : Type 0 where
+  reads : Address → ℕ → Reading
+  refused : ℕ → List ℕ → Reading
+
+abbrev pub readOf : AddressRead → Reading
+readOf (Read address used) = reads address used
+readOf (Refused r) = refused (numberOf r) (valuesOf r)
+
+-- 3 if there are fewer bytes than the address has; bytes past it are ignored
+abbrev pub decoded : Bool → List ℕ → Reading
+decoded long bs = cond (ltb (length bs) (addressLength long)) (refused 3 []) (reads (readAddress long bs) (addressLength long))
