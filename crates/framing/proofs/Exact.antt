@@ -44,10 +44,10 @@ use Rattle.framing.proofs.Demand.{ends-scanned}
 use Rattle.framing.proofs.Image.{array, blank-array, real, zeros-read, zero-read, reachable-real, follows}
 
 -- a decoder that passes the test is the image of a fine scanner
-pub record Scanned (d : Decoder) : Type 0 where
-  pub scanner : Scan
-  pub fine : Fine scanner
-  pub is : real scanner ≡ d
+record Scanned (d : Decoder) : Type 0 where
+  scanner : Scan
+  fine : Fine scanner
+  is : real scanner ≡ d
 
 bytes-take : (k : ℕ) (bs : List ℕ) → Bytes bs → Bytes (take k bs)
 bytes-take k bs h = bytes-left (take k bs) (drop k bs) (subst Bytes (sym (take-append-drop k bs)) h)
@@ -96,7 +96,7 @@ address-whole long bs n = length-take-le (addressLength long) bs (omega (arith, 
 data-whole : (m : ℕ) (bs : List ℕ) → length bs ≡ 260 → m ≤ 255 → length (take m (drop 5 bs)) ≡ m
 data-whole m bs n h = length-take-le m (drop 5 bs) (omega (arith, length-drop 5 bs))
 
-pub scanned-back : (d : Decoder) → Value d → reachable d ≡ true → Scanned d
+scanned-back : (d : Decoder) → Value d → reachable d ≡ true → Scanned d
 scanned-back d v r = by (d .state) (d .bytes) (v .state) (v .bytes) (v .whole) r
   where
     by : (s : State) (bs : List ℕ) → SmallState s → Bytes bs → length bs ≡ 260 → reachableAt s bs ≡ true → Scanned (decoder s bs)

@@ -102,16 +102,16 @@ blank-array = refl
 -- ---- the image of a fine state passes the test
 
 module _ (ad ds : List ℕ) (short : length ad ≤ 5) where
-  pub take-array : take (length ad) (array ad ds) ≡ ad
+  take-array : take (length ad) (array ad ds) ≡ ad
   take-array = ap (take (length ad)) (append-assoc ad (replicate (5 - length ad) 0) (padded 255 ds)) ∙ take-at ad (replicate (5 - length ad) 0 ++ padded 255 ds) (length ad) refl
 
-  pub front-array : take 5 (array ad ds) ≡ padded 5 ad
+  front-array : take 5 (array ad ds) ≡ padded 5 ad
   front-array = take-at (padded 5 ad) (padded 255 ds) 5 (length-padded 5 ad short)
 
-  pub back-array : drop 5 (array ad ds) ≡ padded 255 ds
+  back-array : drop 5 (array ad ds) ≡ padded 255 ds
   back-array = drop-at (padded 5 ad) (padded 255 ds) 5 (length-padded 5 ad short)
 
-  pub take-back-array : take (length ds) (drop 5 (array ad ds)) ≡ ds
+  take-back-array : take (length ds) (drop 5 (array ad ds)) ≡ ds
   take-back-array = ap (take (length ds)) back-array ∙ take-at ds (replicate (255 - length ds) 0) (length ds) refl
 
   clear-array : (q : Claim) → q .address ≡ length ad → q .loaded ≡ length ds → isClear q (array ad ds) ≡ true

@@ -20,7 +20,7 @@ pub and-second : (a b : Bool) → a && b ≡ true → b ≡ true
 and-second true b e = e
 and-second false b e = let z : _≡_ {A = ℕ} 0 1 = cc in absurd (omega arith)
 
-pub zeros-append : (xs ys : List ℕ) → allZero (xs ++ ys) ≡ allZero xs && allZero ys
+zeros-append : (xs ys : List ℕ) → allZero (xs ++ ys) ≡ allZero xs && allZero ys
 zeros-append [] ys = refl
 zeros-append (x ∷ xs) ys = ap (λ (t : Bool). eqb x 0 && t) (zeros-append xs ys) ∙ sym (and-assoc (eqb x 0) (allZero xs) (allZero ys))
 

@@ -42,7 +42,7 @@ pub data Steps : Scan → List ℕ → Scan → Type 0 where
 via : {s s″ : Scan} {b : ℕ} {bs : List ℕ} (s′ : Scan) → scan s b ≡ (s′, none) → Steps s′ bs s″ → Steps s (b ∷ bs) s″
 via s′ e q = go e q
 
-pub steps-append : {s s′ s″ : Scan} {bs cs : List ℕ} → Steps s bs s′ → Steps s′ cs s″ → Steps s (bs ++ cs) s″
+steps-append : {s s′ s″ : Scan} {bs cs : List ℕ} → Steps s bs s′ → Steps s′ cs s″ → Steps s (bs ++ cs) s″
 steps-append stay r = r
 steps-append (go e q) r = go e (steps-append q r)
 

@@ -43,12 +43,12 @@ use Rattle.line.proofs.Scan.{Scan, hunt, pre, within, checking, scanWit
 use Rattle.line.proofs.Steps.{Steps, stay, go, steps-ends, to-preambles, to-ready}
 
 -- no piece ends before a piece's last byte, and there it ends
-pub record Passes (p : Piece) : Type 0 where
-  pub before : Scan
-  pub along : Steps hunt (front p) before
-  pub scans : scan before (last p) ≡ (hunt, some p)
+record Passes (p : Piece) : Type 0 where
+  before : Scan
+  along : Steps hunt (front p) before
+  scans : scan before (last p) ≡ (hunt, some p)
 
-pub passes : (p : Piece) → Holds p → Passes p
+passes : (p : Piece) → Holds p → Passes p
 unfolding scan scanWithin
 passes (noise b) h = record { before = hunt; along = stay; scans = rw (ne-eqb b 0xFF h) }
 passes (shortRun n b) h =
