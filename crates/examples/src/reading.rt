@@ -19,7 +19,7 @@ ghost use lib.ListN.{length};
 // The longest run here: 700 FF and a frame.
 const ROOM: usize = 720;
 
-fn print_frame_type(frame_type: FrameType) {
+pub(crate) fn print_frame_type(frame_type: FrameType) {
     match frame_type {
         FrameType::Request => print(b"request"),
         FrameType::Response => print(b"response"),
@@ -37,7 +37,7 @@ fn print_master(master: MasterRole, burst: bool) {
     }
 }
 
-fn print_address(address: Address) {
+pub(crate) fn print_address(address: Address) {
     match address {
         Address::Short {
             master,
@@ -131,7 +131,7 @@ fn print_reason(reason: Reason) {
     }
 }
 
-fn print_heard(heard: Heard) {
+pub(crate) fn print_heard(heard: Heard) {
     let answer = heard.answer;
     match answer {
         Answer::Silence => print(b"silence"),
@@ -153,7 +153,7 @@ fn put(run: &mut [u8], at: usize, bytes: &[u8])
     }
 }
 
-fn heard_of(run: &[u8], end: usize) -> Heard {
+pub(crate) fn heard_of(run: &[u8], end: usize) -> Heard {
     if run.len() < end {
         return lent::listen(run, 0);
     }
@@ -242,7 +242,7 @@ fn refused(preambles: usize, bytes: &[u8], number: u32, first: u8, second: u8) -
     right
 }
 
-fn is_found(answer: Answer) -> bool {
+pub(crate) fn is_found(answer: Answer) -> bool {
     match answer {
         Answer::Silence => false,
         Answer::Found => true,

@@ -28,16 +28,25 @@ fn first_value(r: Refusal) -> usize {
     }
 }
 
+pub(crate) fn count(n: usize) -> Answer {
+    Answer {
+        number: 0,
+        value: n,
+    }
+}
+
+pub(crate) fn refused(number: u32, value: usize) -> Answer {
+    Answer { number, value }
+}
+
+pub(crate) fn refused_by(r: Refusal) -> Answer {
+    refused(r.number(), first_value(r))
+}
+
 pub(crate) fn answer_of(written: Written) -> Answer {
     match written {
-        Written::Count(n) => Answer {
-            number: 0,
-            value: n,
-        },
-        Written::Refused(r) => Answer {
-            number: r.number(),
-            value: first_value(r),
-        },
+        Written::Count(n) => count(n),
+        Written::Refused(r) => refused_by(r),
     }
 }
 
@@ -70,7 +79,7 @@ pub(crate) fn print_bytes(bytes: &[u8]) {
     }
 }
 
-fn print_answer(answer: Answer) {
+pub(crate) fn print_answer(answer: Answer) {
     if answer.number == 0 {
         print(b"count ");
         print_number(answer.value);
@@ -82,10 +91,23 @@ fn print_answer(answer: Answer) {
         print(b" at place ");
         print_number(answer.value);
     }
+    if answer.number > 8 {
+        print(b" with ");
+        print_number(answer.value);
+    }
 }
 
-fn same_answer(a: Answer, b: Answer) -> bool {
+pub(crate) fn same_answer(a: Answer, b: Answer) -> bool {
     a.number == b.number && a.value == b.value
+}
+
+// Whether the answer is the wanted one, and what it is.
+pub(crate) fn answered(answer: Answer, wanted: Answer) -> bool {
+    print(b": ");
+    print_answer(answer);
+    let right = same_answer(answer, wanted);
+    print_right(right);
+    right
 }
 
 // Whether the answer and the buffer after a call are the wanted ones, and what they are.

@@ -2,24 +2,15 @@
 use crate::report::Answer;
 use crate::report::answer_of;
 use crate::report::came_out;
+use crate::report::count;
 use crate::report::print;
 use crate::report::print_bytes;
 use crate::report::print_number;
+use crate::report::refused;
 use packed_string::decode_packed;
 use packed_string::decode_standard;
 use packed_string::encode_packed;
 use packed_string::encode_standard;
-
-fn count(n: usize) -> Answer {
-    Answer {
-        number: 0,
-        value: n,
-    }
-}
-
-fn refused(number: u32, value: usize) -> Answer {
-    Answer { number, value }
-}
 
 enum Call {
     EncodePacked,

@@ -3,10 +3,11 @@ use Prim.Native.Nat.{ℕ, _≤_}
 use native.Mathlib.Omega.{arith}
 use native.Mathlib.Nat.{lt-of-lt-of-le}
 use mathlib.Core.Path.{_≡_}
-use mathlib.Core.Bool.{Bool, true, false, _&&_}
+use mathlib.Core.Bool.{true, _&&_}
 use mathlib.Core.List.{List}
 use borrow.Author.Tests.{ltb-true}
 use Rattle.types.specs.Address.{addressLength}
+use Rattle.types.proofs.Addresses.{address-length-le}
 use Rattle.framing.specs.Step.{HasPlace}
 use Rattle.framing.specs.Reachable.{claimOf, isClear, isRight, reachableAt}
 use Rattle.framing.specs.declared.state.State.{State}
@@ -20,10 +21,6 @@ use Rattle.framing.specs.declared.state.State.the-variants.{
   Checksum,
 }
 use Rattle.framing.proofs.Zeros.{and-first}
-
-pub address-length-le : (long : Bool) → addressLength long ≤ 5
-address-length-le true = omega arith
-address-length-le false = omega arith
 
 pub possible-address : (s : State) → claimOf s .possible ≡ true → claimOf s .address ≤ 5
 possible-address Hunting e = omega arith

@@ -14,6 +14,7 @@ use Rattle.octets.proofs.Check.{check-first}
 use Rattle.types.specs.Delimiter.{delimiter}
 use Rattle.types.specs.Address.{addressLength}
 use Rattle.types.proofs.Delimiters.{delimiter-small}
+use Rattle.types.proofs.Addresses.{address-length-le}
 use Rattle.line.specs.Pieces.{Bytes, Piece, noise, shortRun, badDelimiter, frame, badCheck}
 use Rattle.line.specs.Events.{Event, refusal}
 use Rattle.line.specs.Runs.{ends}
@@ -38,7 +39,7 @@ use Rattle.framing.specs.declared.state.State.the-variants.{
 }
 use Rattle.framing.specs.declared.decode.Decoder.{Decoder}
 use Rattle.framing.proofs.Zeros.{and-first, and-second}
-use Rattle.framing.proofs.Claims.{address-length-le, possible-address}
+use Rattle.framing.proofs.Claims.{possible-address}
 use Rattle.framing.proofs.Padded.{padded-back}
 use Rattle.framing.proofs.Demand.{ends-scanned}
 use Rattle.framing.proofs.Image.{array, blank-array, real, zeros-read, zero-read, reachable-real, follows}

@@ -19,6 +19,7 @@ use Rattle.types.specs.declared.delimiter.Delimiter.the-variants.{Known, Unknow
 use Rattle.types.specs.Delimiter.{delimiter, delimiterOf}
 use Rattle.types.specs.Address.{addressLength}
 use Rattle.types.proofs.Delimiters.{Right, delimiter-right}
+use Rattle.types.proofs.Addresses.{address-length-le}
 use Rattle.line.specs.Layout.{Wire, Fits, checkOf}
 use Rattle.line.specs.Pieces.{Piece, noise, shortRun, frame, badCheck}
 use Rattle.line.specs.Events.{Event, silence}
@@ -61,7 +62,6 @@ use Rattle.framing.specs.declared.state.State.the-variants.{
 }
 use Rattle.framing.specs.declared.decode.Decoder.{Decoder}
 use Rattle.framing.specs.declared.reachable.Claim.{Claim}
-use Rattle.framing.proofs.Claims.{address-length-le}
 use Rattle.framing.proofs.Padded.{length-padded, padded-clear, padded-set, set-behind}
 
 -- the 5 address bytes and the 255 data bytes

@@ -5,5 +5,6 @@ pub mod Image
 pub mod Demand
 pub mod Exact
 pub mod SourceAddress
+pub mod RoundTrip
 pub mod Source
 pub mod Determined

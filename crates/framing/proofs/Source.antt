@@ -79,7 +79,7 @@ use Rattle.framing.specs.Source.{
   SmallCalls,
   Few,
 }
-use Rattle.framing.proofs.Claims.{address-length-le}
+use Rattle.types.proofs.Addresses.{address-length-le}
 use Rattle.framing.proofs.Padded.{length-padded, padded-set}
 use Rattle.framing.proofs.Image.{real, follows}
 use Rattle.framing.proofs.SourceAddress.{address-whole-same}

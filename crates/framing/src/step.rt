@@ -169,14 +169,21 @@ fn checksum(head: Head, command: u8, expected: u8, byte: u8) -> Moved
     }))
 }
 
-fn advance(state: State, byte: u8) -> Moved
-    requires { ⌜ HasPlace state ⌝ }
+// One byte into a state that a run of bytes leads to. An address or data byte is kept at its place; any
+// other byte is in the state alone. Where a piece is over the bytes are left for the caller to take the
+// frame from, and it is the caller who then clears them.
+pub(crate) fn step(state: State, bytes: &mut [u8], byte: u8) -> Moved
+    requires { ⌜ HasPlace state × (length (now bytes) ≡ room) ⌝ }
     ensures { λ r. ⌜ r ≡ movedAt state byte ⌝ }
+    ensures { λ _. ⌜ now (bytes .exit) ≡ storedAt state (now (bytes .entry)) byte ⌝ }
 {
     match state {
         State::Hunting => hunting(byte),
         State::Preamble(count) => preamble(count, byte),
-        State::Address { head, received } => address(head, received, byte),
+        State::Address { head, received } => {
+            bytes[received as usize] = byte;
+            address(head, received, byte)
+        }
         State::Command { head } => going_on(State::ByteCount {
             head: mix(head, byte),
             command: byte,
@@ -187,54 +194,14 @@ fn advance(state: State, byte: u8) -> Moved
             command,
             expected,
             received,
-        } => data(head, command, expected, received, byte),
+        } => {
+            bytes[ADDRESS_ROOM + received as usize] = byte;
+            data(head, command, expected, received, byte)
+        }
         State::Checksum {
             head,
             command,
             expected,
         } => checksum(head, command, expected, byte),
     }
-}
-
-// An address or data byte is kept at its place; any other byte is in the state alone.
-fn store(state: State, bytes: &mut [u8], byte: u8)
-    requires { ⌜ HasPlace state × (length (now bytes) ≡ room) ⌝ }
-    ensures { λ _. ⌜ now (bytes .exit) ≡ storedAt state (now (bytes .entry)) byte ⌝ }
-{
-    match state {
-        State::Hunting => {}
-        State::Preamble(_) => {}
-        State::Address { head: _, received } => {
-            bytes[received as usize] = byte;
-        }
-        State::Command { head: _ } => {}
-        State::ByteCount {
-            head: _,
-            command: _,
-        } => {}
-        State::Data {
-            head: _,
-            command: _,
-            expected: _,
-            received,
-        } => {
-            bytes[ADDRESS_ROOM + received as usize] = byte;
-        }
-        State::Checksum {
-            head: _,
-            command: _,
-            expected: _,
-        } => {}
-    }
-}
-
-// One byte into a state that a run of bytes leads to. Where a piece is over the bytes are left for the
-// caller to take the frame from, and it is the caller who then clears them.
-pub(crate) fn step(state: State, bytes: &mut [u8], byte: u8) -> Moved
-    requires { ⌜ HasPlace state × (length (now bytes) ≡ room) ⌝ }
-    ensures { λ r. ⌜ r ≡ movedAt state byte ⌝ }
-    ensures { λ _. ⌜ now (bytes .exit) ≡ storedAt state (now (bytes .entry)) byte ⌝ }
-{
-    store(state, bytes, byte);
-    advance(state, byte)
 }

@@ -1,12 +1,13 @@
 -- Bytes put into a buffer: one more byte, one part behind another, the part that was put, and what a call that put them comes to.
-use Prim.Native.Nat.{ℕ, suc, _+_, _≤_, _<_}
+use Prim.Native.Nat.{ℕ, suc, _+_, _-_, _≤_, _<_}
 use native.Mathlib.Nat.{add-zero, zero-add}
 use native.Mathlib.Numerals.{add-one}
 use native.Mathlib.Omega.{arith}
 use mathlib.Core.Path.{_≡_, refl, sym, ap, _∙_}
 use mathlib.Core.List.{List, [], _∷_, _++_, append-assoc, append-nil}
-use lib.ListN.{length, take, drop, set, length-append, take-append-drop, length-drop}
-use lib.Seq.{length-take-le, append-snoc, set-split, take-at, drop-at, drop-drop}
+use lib.ListN.{length, take, drop, set, length-append, take-append-drop, length-drop, drop-of-length-le}
+use lib.Seq.{length-take-le, append-snoc, set-split, take-all, take-at, drop-at, drop-drop}
+use borrow.Rule.Slice.PartMut.{midOf, postOf, putMid}
 use Rattle.refusal.specs.Outcome.{done, ends, wrote}
 use Rattle.octets.specs.Put.{put}
 
@@ -38,13 +39,6 @@ module _ (l : List ℕ) (at : ℕ) (bs : List ℕ) where
       (sym (drop-drop (length cs) n (put l at bs)) ∙ ap (drop (length cs)) (drop-at head (drop n l) n g) ∙ drop-drop (length cs) n l)
       ∙ ap (λ (r : List ℕ). r ++ drop (n + length cs) l) (append-assoc (take at l) bs cs)
       ∙ ap (λ (k : ℕ). take at l ++ (bs ++ cs) ++ drop k l) after
-
-  -- what stands before the part and behind it stays
-  pub take-put : at ≤ length l → take at (put l at bs) ≡ take at l
-  take-put h = ap (take at) (append-assoc (take at l) bs (drop (at + length bs) l)) ∙ take-at (take at l) (bs ++ drop (at + length bs) l) at (length-take-le at l h)
-
-  pub drop-put : at ≤ length l → drop (at + length bs) (put l at bs) ≡ drop (at + length bs) l
-  drop-put h = drop-at (take at l ++ bs) (drop (at + length bs) l) (at + length bs) (length-head h)
 
   -- the part itself
   pub part-put : (n : ℕ) → at + length bs ≤ length l → length bs ≡ n → take n (drop at (put l at bs)) ≡ bs
@@ -83,6 +77,21 @@ stores-behind (v ∷ vs) l at bs k e h =
 
 pub stores-put : (l : List ℕ) (at v : ℕ) (vs : List ℕ) → at + 1 + length vs ≤ length l → stores (set l at v) at 1 vs ≡ put l at (v ∷ vs)
 stores-put l at v vs h = ap (λ (q : List ℕ). stores q at 1 vs) (set-is-put l at v (omega arith)) ∙ stores-behind vs l at (v ∷ []) 1 refl h
+
+-- bytes at the front of what stands behind a place are bytes at that place
+pub put-behind : (l : List ℕ) (at : ℕ) (bs : List ℕ) → take at l ++ put (drop at l) 0 bs ≡ put l at bs
+put-behind l at bs =
+    ap (λ (r : List ℕ). take at l ++ r) (put-front (drop at l) bs ∙ ap (λ (r : List ℕ). bs ++ r) (drop-drop (length bs) at l))
+    ∙ sym (append-assoc (take at l) bs (drop (at + length bs) l))
+
+-- a buffer's part from place `at` on, lent to a call that wrote `bs` to its front: they stand in the buffer at that place
+pub lent-put : (l : List ℕ) (at : ℕ) (bs : List ℕ) {part : List ℕ} → at ≤ length l → part ≡ bs ++ drop (length bs) (midOf at (length l - at) l) → putMid at (length l - at) l part ≡ put l at bs
+lent-put l at bs {part} h e =
+    let whole : midOf at (length l - at) l ≡ drop at l = take-all (length l - at) (drop at l) (omega (arith, length-drop at l)) in
+    let none : postOf at (length l - at) l ≡ [] = drop-of-length-le (drop at l) {i = length l - at} (omega (arith, length-drop at l)) in
+    ap (λ (r : List ℕ). take at l ++ (part ++ r)) none
+    ∙ ap (λ (r : List ℕ). take at l ++ r) (append-nil part ∙ e ∙ ap (λ (r : List ℕ). bs ++ drop (length bs) r) whole ∙ sym (put-front (drop at l) bs))
+    ∙ put-behind l at bs
 
 -- the answer and the buffer of a call that put `bs` at the front and counted them
 pub put-wrote : (l bs : List ℕ) {b : List ℕ} {n : ℕ} → b ≡ put l 0 bs → n ≡ length bs → ends (done (n ∷ [])) b ≡ wrote bs l

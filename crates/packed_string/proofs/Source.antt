@@ -13,12 +13,13 @@ use borrow.Author.Tests.{ltb-true, ltb-false, lt-ltb}
 use Rattle.refusal.specs.Outcome.{ends, done, wrote}
 use Rattle.octets.specs.Digits.{Below}
 use Rattle.octets.specs.Put.{put, firstParts}
+use Rattle.octets.specs.Source.{Run, comes, shiftRight, asU8}
 use Rattle.octets.proofs.Digits.{below-at}
 use Rattle.octets.proofs.Put.{length-put, put-wrote, stores-put}
 use Rattle.octets.proofs.Parts.{length-parts, parts-start, parts-turn}
 use Rattle.packed_string.specs.declared.Mode.the-variants.{Crate}
 use Rattle.packed_string.specs.Text.{codeOf, charOf, packGroup, unpackGroup, packedGroup, unpackedGroup, groups, cratePacked, crateUnpacked}
-use Rattle.packed_string.specs.Source.{Run, comes, divCeil, shiftLeft, shiftRight, asU8, groupLoop, sourceCode, storeBytes, encodeTurn, sourceEncoded, storeChars, decodeGroup, decodeTurn, sourceDecoded}
+use Rattle.packed_string.specs.Source.{divCeil, shiftLeft, groupLoop, sourceCode, storeBytes, encodeTurn, sourceEncoded, storeChars, decodeGroup, decodeTurn, sourceDecoded}
 use Rattle.packed_string.proofs.Groups.{code-below, pack-group, unpack-group, packed-sized, unpacked-sized}
 use Rattle.packed_string.proofs.Calls.{crate-packs, crate-unpacks}
 

@@ -1,26 +1,15 @@
 -- packed_string.rs written down: its two functions with the Rust's own operators and names, in its order, to be held beside it. What
--- stops a debug build stops here: an index outside a slice, and a sum of u8 past 255. (Its sums of usize stay below a slice's length and
--- 3 more, and no slice has 2^63 bytes.)
+-- stops a debug build stops here: an index outside a slice, and a sum of u8 past 255.
 use Prim.Native.Nat.{ℕ, zero, suc, _+_, _*_, _-_, _/_, _%_, _^_}
 use mathlib.Core.Bool.{cond}
 use mathlib.Core.List.{List, [], _∷_}
-use lib.ListN.{length, getD, set}
+use lib.ListN.{length, getD}
 use lib.Bits.{bitAnd, bitOr}
 use lib.Dec.{ltb}
-use Rattle.refusal.specs.Outcome.{Outcome, ends, done}
+use Rattle.refusal.specs.Outcome.{ends, done}
+use Rattle.octets.specs.Source.{Run, stops, comes, readAt, storeAt, shiftRight, asU8}
 
--- what a run comes to
-pub data Run : Type 0 where
-  stops : Run
-  comes : Outcome → Run
-
--- `src[i]`, `dst[i] = v` and a sum of two u8, each with the rest of the run
-abbrev pub readAt : List ℕ → ℕ → (ℕ → Run) → Run
-readAt src i rest = cond (ltb i (length src)) (rest (getD src i 0)) stops
-
-abbrev pub storeAt : List ℕ → ℕ → ℕ → (List ℕ → Run) → Run
-storeAt dst i v rest = cond (ltb i (length dst)) (rest (set dst i v)) stops
-
+-- a sum of two u8, with the rest of the run
 abbrev pub addU8 : ℕ → ℕ → (ℕ → Run) → Run
 addU8 a b rest = cond (ltb (a + b) 256) (rest (a + b)) stops
 
@@ -28,15 +17,9 @@ addU8 a b rest = cond (ltb (a + b) 256) (rest (a + b)) stops
 abbrev pub divCeil : ℕ → ℕ → ℕ
 divCeil a b = cond (ltb 0 (a % b)) (a / b + 1) (a / b)
 
--- `<<` and `>>` of a u16, and `as u8`
+-- `<<` of a u16
 abbrev pub shiftLeft : ℕ → ℕ → ℕ
 shiftLeft x k = x * 2 ^ k % 2 ^ 16
-
-abbrev pub shiftRight : ℕ → ℕ → ℕ
-shiftRight x k = x / 2 ^ k
-
-abbrev pub asU8 : ℕ → ℕ
-asU8 x = x % 2 ^ 8
 
 -- the loop that both have, over g: it is left before a group, of `size` bytes, that would pass the end of `dst`
 abbrev pub groupLoop : ℕ → (ℕ → ℕ → List ℕ → (List ℕ → Run) → Run) → ℕ → ℕ → ℕ → List ℕ → Run

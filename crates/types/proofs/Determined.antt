@@ -1,7 +1,9 @@
 -- Each promise of this crate leaves one outcome.
 use mathlib.Core.Path.{_≡_, refl, sym, ap, _∙_}
+use denote.Ref.{now}
 use Rattle.refusal.specs.Determined.{Determined}
-use Rattle.refusal.proofs.Known.{agree-alone, refusal-known}
+use Rattle.refusal.specs.Outcome.{replyOf}
+use Rattle.refusal.proofs.Known.{agree, agree-alone, refusal-known, written-known}
 use Rattle.types.specs.declared.address.AddressRead.{AddressRead}
 use Rattle.types.specs.declared.address.AddressRead.the-variants.{Read, Refused}
 use Rattle.types.specs.Address.{readOf}
@@ -11,6 +13,8 @@ use Rattle.types.proofs.address.Address.from_bytes.Kinds as address-fro
 use Rattle.types.proofs.address.Address.from_bytes.Reads as address-from-bytes-reads
 use Rattle.types.proofs.address.Address.decode.Kinds as address-decode-kinds
 use Rattle.types.proofs.address.Address.decode.Reads as address-decode-reads
+use Rattle.types.proofs.address.Address.encode.Kinds as address-encode-kinds
+use Rattle.types.proofs.address.Address.encode.Reads as address-encode-reads
 use Rattle.types.proofs.address.Address.is_long.Kinds as address-is-long-kinds
 use Rattle.types.proofs.address.Address.is_long.Reads as address-is-long-reads
 use Rattle.types.proofs.delimiter.FrameType.number.Kinds as frame-type-number-kinds
@@ -49,6 +53,9 @@ address-from-bytes κs a r s x y = agree-alone
 
 pub address-decode : Determined 1 address-decode-kinds.ps address-decode-kinds.r address-decode-reads.Post (λ κs x. tt {0})
 address-decode κs a r s x y = λ p q. (read-known r s (p ∙ sym q), refl)
+
+pub address-encode : Determined 1 address-encode-kinds.ps address-encode-kinds.r address-encode-reads.Post (λ κs x. now (x .1 .0))
+address-encode κs a r s x y = agree replyOf written-known
 
 pub address-is-long : Determined 0 address-is-long-kinds.ps address-is-long-kinds.r address-is-long-reads.Post (λ κs x. tt {0})
 address-is-long κs a r s x y = agree-alone

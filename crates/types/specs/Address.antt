@@ -1,11 +1,12 @@
--- Document 01, 'Wire layout': what the bytes of an address say.
-use Prim.Native.Nat.{ℕ, _%_}
+-- Document 01, 'Wire layout': what the bytes of an address say, and the bytes that say an address.
+use Prim.Native.Nat.{ℕ, _+_, _%_, _^_, _≤_, _<_}
 use mathlib.Core.Bool.{Bool, true, false, cond}
 use mathlib.Core.List.{List, [], _∷_}
 use lib.ListN.{length, getD}
 use lib.Dec.{ltb}
 use Rattle.refusal.specs.Table.{numberOf, valuesOf}
-use Rattle.octets.specs.Digits.{fromDigits}
+use Rattle.refusal.specs.Outcome.{Outcome, wrote, refuses}
+use Rattle.octets.specs.Digits.{fromDigits, digits}
 use Rattle.types.specs.Bit.{bit}
 use Rattle.types.specs.declared.address.MasterRole.{MasterRole}
 use Rattle.types.specs.declared.address.MasterRole.the-variants.{Primary, Secondary}
@@ -51,3 +52,37 @@ readOf (Refused r) = refused (numberOf r) (valuesOf r)
 -- 3 if there are fewer bytes than the address has; bytes past it are ignored
 abbrev pub decoded : Bool → List ℕ → Reading
 decoded long bs = cond (ltb (length bs) (addressLength long)) (refused 3 []) (reads (readAddress long bs) (addressLength long))
+
+-- bits 7 and 6 of the first byte as they are written, over a field of the lower bits
+abbrev pub masterBit : MasterRole → ℕ
+masterBit Primary = 0x80
+masterBit Secondary = 0
+
+abbrev pub burstBit : Bool → ℕ
+burstBit false = 0
+burstBit true = 0x40
+
+abbrev pub firstByte : MasterRole → Bool → ℕ → ℕ
+firstByte master burst low = masterBit master + burstBit burst + low
+
+abbrev pub longBytes : ℕ → ℕ → ℕ → List ℕ
+longBytes first device number = first ∷ device ∷ digits 256 3 number
+
+-- the bytes of an address: each field keeps the bits that the line has for it, and bits 5 and 4 of a short one are zero
+unfoldable pub addressBytes : Address → List ℕ
+addressBytes (Short master burst polling) = firstByte master burst (polling % 16) ∷ []
+addressBytes (Long master burst manufacturer device number) = longBytes (firstByte master burst (manufacturer % 64)) device number
+
+-- 2 if the buffer has fewer bytes than the address
+unfoldable pub addressWritten : Address → List ℕ → Outcome
+addressWritten a buffer = cond (ltb (length buffer) (addressLength (isLong a))) (refuses 2 [] buffer) (wrote (addressBytes a) buffer)
+
+-- each field fits its bits, so that nothing is dropped
+abbrev pub Limited : Address → Type 0
+Limited (Short master burst polling) = polling ≤ 15
+Limited (Long master burst manufacturer device number) = (manufacturer ≤ 63) × (number < 2 ^ 24)
+
+-- each number is in the range of its type
+abbrev pub Ranged : Address → Type 0
+Ranged (Short master burst polling) = polling < 256
+Ranged (Long master burst manufacturer device number) = (manufacturer < 256) × (device < 256) × (number < 2 ^ 32)

@@ -5,10 +5,16 @@ use crate::consts::address::MANUFACTURER_ID_MASK;
 use crate::consts::address::PRIMARY_MASTER_BIT;
 use crate::consts::address::SHORT_ADDRESS_MASK;
 use octets::decode_u24_be;
+use octets::encode_u24_be;
 use refusal::Refusal;
+use refusal::Written;
 ghost use mathlib.Core.Path.{_≡_};
 ghost use mathlib.Core.Bool.{true};
-ghost use Rattle.types.specs.Address.{addressLength, masterOf, shortAddress, readAddress, isLong, readOf, decoded};
+ghost use Prim.Native.Nat.{_≤_, _<_};
+ghost use lib.ListN.{length};
+ghost use Rattle.refusal.specs.Outcome.{ends, replyOf};
+ghost use Rattle.octets.specs.Put.{put};
+ghost use Rattle.types.specs.Address.{addressLength, masterOf, shortAddress, readAddress, isLong, readOf, decoded, masterBit, burstBit, firstByte, longBytes, addressWritten};
 ghost use Rattle.types.specs.Bit.{bit};
 
 pub enum MasterRole {
@@ -86,6 +92,40 @@ fn long_address(bytes: [u8; 5]) -> Address
     }
 }
 
+fn master_bit(master: MasterRole) -> u8
+    ensures { λ r. ⌜ r ≡ masterBit master ⌝ }
+{
+    match master {
+        MasterRole::Primary => PRIMARY_MASTER_BIT,
+        MasterRole::Secondary => 0,
+    }
+}
+
+fn burst_bit(burst: bool) -> u8
+    ensures { λ r. ⌜ r ≡ burstBit burst ⌝ }
+{
+    if burst { BURST_MODE_BIT } else { 0 }
+}
+
+fn first_byte(master: MasterRole, burst: bool, low: u8) -> u8
+    requires { ⌜ low < 64 ⌝ }
+    ensures { λ r. ⌜ r ≡ firstByte master burst low ⌝ }
+{
+    master_bit(master) + burst_bit(burst) + low
+}
+
+fn write_long(first: u8, device_type: u8, device_id: u32, buf: &mut [u8])
+    requires { ⌜ 5 ≤ length (now buf) ⌝ }
+    ensures { λ _. ⌜ now (buf .exit) ≡ put (now (buf .entry)) 0 (longBytes first «device_type» «device_id») ⌝ }
+{
+    let number = encode_u24_be(device_id);
+    buf[0] = first;
+    buf[1] = device_type;
+    buf[2] = number[0];
+    buf[3] = number[1];
+    buf[4] = number[2];
+}
+
 impl Address {
     // Takes the first byte, or all five.
     pub fn from_bytes(bytes: [u8; 5], is_long: bool) -> Address
@@ -116,6 +156,39 @@ impl Address {
         AddressRead::Read {
             address: short_address(buf[0]),
             used: 1,
+        }
+    }
+
+    // Writes as many bytes as the address has. The Rust stops where the buffer has fewer.
+    pub fn encode(self, buf: &mut [u8]) -> Written
+        ensures { λ r. ⌜ ends (replyOf r) (now (buf .exit)) ≡ addressWritten self (now (buf .entry)) ⌝ }
+    {
+        match self {
+            Address::Short {
+                master,
+                burst,
+                poll_address,
+            } => {
+                if buf.len() < 1 {
+                    return Written::Refused(Refusal::BufferTooSmall);
+                }
+                buf[0] = first_byte(master, burst, poll_address & SHORT_ADDRESS_MASK);
+                Written::Count(1)
+            }
+            Address::Long {
+                master,
+                burst,
+                manufacturer_id,
+                device_type,
+                device_id,
+            } => {
+                if buf.len() < 5 {
+                    return Written::Refused(Refusal::BufferTooSmall);
+                }
+                let first = first_byte(master, burst, manufacturer_id & MANUFACTURER_ID_MASK);
+                write_long(first, device_type, device_id, buf);
+                Written::Count(5)
+            }
         }
     }
 

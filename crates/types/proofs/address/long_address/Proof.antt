@@ -1,7 +1,14 @@
 -- `long_address` meets its contract.
+use Prim.Native.Nat.{ℕ}
+use mathlib.Core.Path.{ap₂, _∙_}
+use mathlib.Core.Bool.{Bool}
 use lib.ListN.{getD}
-use lib.Bits.{and-mask}
+use lib.Bits.{bitAnd, and-mask}
 use borrow.Author.Needs.{needs}
+use Rattle.types.specs.declared.address.MasterRole.{MasterRole}
+use Rattle.types.specs.declared.address.Address.the-variants.{Long}
+use Rattle.types.specs.Bit.{bit}
+use Rattle.types.specs.Address.{masterOf}
 use Rattle.types.proofs.address.long_address.Statement.{statement}
 use Rattle.types.proofs.address.long_address.Tie as tie
 
@@ -30,7 +37,11 @@ decode-u24-be-requires : tie.Need-decode-u24-be-requires
 decode-u24-be-requires c κs = search needs
 
 returns : tie.Need-returns
-returns c = let a = c .before .before .before .args in cc (c .decode-u24-be .ensures, c .before .burst-of .ensures, c .before .before .master-of .ensures, and-mask (getD (a .t1) 0 0) 6)
+returns c =
+    let bs = c .before .before .before .args .t1 in
+    let first = getD bs 0 0 in
+    ap₂ (λ (m : MasterRole) (b : Bool). Long m b (bitAnd first 63) (getD bs 1 0) (c .decode-u24-be .result)) (c .before .before .master-of .ensures) (c .before .burst-of .ensures)
+    ∙ ap₂ (λ (low n : ℕ). Long (masterOf first) (bit 6 first) low (getD bs 1 0) n) (and-mask first 6) (c .decode-u24-be .ensures)
 
 pub long-address-spec : {M : Type 1} → statement M
 long-address-spec =

@@ -1,0 +1,113 @@
+// From frames to bytes (encode.rs): head, data, seal, each written at its place in the lent buffer.
+use octets::checksum_from;
+use refusal::Refusal;
+use refusal::Written;
+use types::Address;
+use types::FrameType;
+use types::address_length;
+use types::consts::MAX_DATA_LENGTH;
+use types::consts::PREAMBLE_BYTE;
+use types::delimiter_byte;
+ghost use mathlib.Core.Path.{_≡_};
+ghost use mathlib.Core.List.{[], _∷_};
+ghost use Prim.Native.Nat.{_+_, _-_, _≤_, _<_};
+ghost use lib.ListN.{length, take, drop};
+ghost use Rattle.refusal.specs.Outcome.{ends, replyOf};
+ghost use Rattle.octets.specs.Check.{check};
+ghost use Rattle.octets.specs.Put.{put};
+ghost use Rattle.types.specs.Address.{addressLength, isLong};
+ghost use Rattle.line.specs.Layout.{preambles};
+ghost use Rattle.encode.specs.Encode.{head, encoded};
+
+fn length_of(address: Address) -> usize
+    ensures { λ r. ⌜ r ≡ addressLength (isLong address) ⌝ }
+{
+    address_length(address.is_long()) as usize
+}
+
+fn write_preambles(buf: &mut [u8], n: usize)
+    requires { ⌜ n ≤ length (now buf) ⌝ }
+    ensures { λ _. ⌜ now (buf .exit) ≡ put (now (buf .entry)) 0 (preambles n) ⌝ }
+{
+    let mut pos = 0;
+    while pos < n {
+        buf[pos] = PREAMBLE_BYTE;
+        pos += 1;
+    }
+}
+
+// Everything in front of the data; returns the place where the data begin. It takes their count and
+// not the data, so that a writer of a command's own fields can put them in place.
+fn write_head(
+    frame_type: FrameType,
+    address: Address,
+    command: u8,
+    count: u8,
+    preamble_count: u8,
+    buf: &mut [u8],
+) -> usize
+    requires { ⌜ «preamble_count» + 3 + addressLength (isLong address) ≤ length (now buf) ⌝ }
+    ensures { λ r. ⌜ (r ≡ «preamble_count» + 3 + addressLength (isLong address)) × (now (buf .exit) ≡ put (now (buf .entry)) 0 (head «frame_type» address command count «preamble_count»)) ⌝ }
+{
+    let pos = preamble_count as usize;
+    write_preambles(buf, pos);
+    buf[pos] = delimiter_byte(frame_type, address.is_long());
+    let after = pos + 1;
+    address.encode(&mut buf[after..]);
+    let next = after + length_of(address);
+    buf[next] = command;
+    buf[next + 1] = count;
+    next + 2
+}
+
+fn write_data(data: &[u8], buf: &mut [u8], at: usize)
+    requires { ⌜ at + length (now «data») ≤ length (now buf) ⌝ }
+    ensures { λ _. ⌜ now (buf .exit) ≡ put (now (buf .entry)) at (now («data» .entry)) ⌝ }
+{
+    let mut i = 0;
+    while i < data.len() {
+        buf[at + i] = data[i];
+        i += 1;
+    }
+}
+
+// The check of what stands from place `from` up to `to`, written at `to`.
+fn seal(buf: &mut [u8], from: usize, to: usize)
+    requires { ⌜ (from ≤ to) × (to < length (now buf)) ⌝ }
+    ensures { λ _. ⌜ now (buf .exit) ≡ put (now (buf .entry)) to (check (take (to - from) (drop from (now (buf .entry)))) ∷ []) ⌝ }
+{
+    let checksum = checksum_from(0, &buf[from..to]);
+    buf[to] = checksum;
+}
+
+// The whole frame to the front of the buffer, and how many bytes that is.
+pub fn encode_frame(
+    frame_type: FrameType,
+    address: Address,
+    command: u8,
+    data: &[u8],
+    preamble_count: u8,
+    buf: &mut [u8],
+) -> Written
+    ensures { λ r. ⌜ ends (replyOf r) (now (buf .exit)) ≡ encoded «frame_type» address command (now («data» .entry)) «preamble_count» (now (buf .entry)) ⌝ }
+{
+    if data.len() > MAX_DATA_LENGTH {
+        return Written::Refused(Refusal::DataTooLong);
+    }
+    let from = preamble_count as usize;
+    let total = from + 4 + length_of(address) + data.len();
+    if buf.len() < total {
+        return Written::Refused(Refusal::BufferTooSmall);
+    }
+    let at = write_head(
+        frame_type,
+        address,
+        command,
+        data.len() as u8,
+        preamble_count,
+        buf,
+    );
+    write_data(data, buf, at);
+    seal(buf, from, at + data.len());
+    Written::Count(total)
+}

@@ -1,0 +1,122 @@
+-- What the encoder wrote is heard: behind five preamble bytes or more, wherever whole pieces stand before it; behind fewer it is not.
+-- No machine is argued about: the written bytes are the bytes of a piece, and a run has one cut.
+use Prim.Native.Nat.{ℕ, _+_, _-_, _≤_, _<_}
+use native.Mathlib.Omega.{arith}
+use mathlib.Core.Path.{_≡_, refl, sym, ap, ap₂, subst, _∙_}
+use mathlib.Core.Logic.{_≢_}
+use mathlib.Core.Bool.{Bool, true, false}
+use mathlib.Core.List.{List, [], _∷_, _++_, map, append-assoc, append-nil, map-append}
+use lib.Dec.{lit<}
+use lib.ListN.{length, take, replicate, length-append}
+use Rattle.octets.proofs.Check.{check-below}
+use Rattle.types.specs.Delimiter.{delimiter}
+use Rattle.types.specs.Address.{addressLength, readAddress, isLong, addressBytes, Limited}
+use Rattle.types.proofs.Delimiters.{delimiter-small}
+use Rattle.types.proofs.Addresses.{length-address, address-bytes-below, address-back}
+use Rattle.line.specs.Layout.{Wire, Fits, preambles, body, checkOf}
+use Rattle.line.specs.Pieces.{Piece, noise, shortRun, badDelimiter, frame, badCheck, front, bytesOf, Bytes, joined, AllHold, Cut, nothing}
+use Rattle.line.specs.Events.{Event, silence, found, verdict, silent, saidBy, dictated, gather, framesIn}
+use Rattle.line.proofs.Layouts.{length-frame}
+use Rattle.line.proofs.Bytes.{bytes-append, bytes-replicate}
+use Rattle.encode.specs.Encode.{layout, total}
+use Rattle.encode.proofs.Layouts.{length-layout, encoded-whole}
+use Rattle.framing.specs.Frames.{frameOf, heardOf}
+use Rattle.framing.specs.RoundTrip.{Handed, written, IsDone, heardBack, HeardBehind, Lacks, NotFound}
+use Rattle.framing.specs.declared.frame.Frame.{Frame}
+use Rattle.framing.specs.declared.frame.Heard.{Heard}
+use Rattle.framing.proofs.Demand.{answered}
+
+-- pieces joined
+joined-append : (ps qs : List Piece) → joined (ps ++ qs) ≡ joined ps ++ joined qs
+joined-append [] qs = refl
+joined-append (p ∷ ps) qs = ap (λ (bs : List ℕ). bytesOf p ++ bs) (joined-append ps qs) ∙ sym (append-assoc (bytesOf p) (joined ps) (joined qs))
+
+hold-append : (ps qs : List Piece) → AllHold ps → AllHold qs → AllHold (ps ++ qs)
+hold-append [] qs h k = k
+hold-append (p ∷ ps) qs h k = (h .0, hold-append ps qs (h .1) k)
+
+said-append : (ps qs : List Piece) → saidBy (ps ++ qs) ≡ saidBy ps ++ saidBy qs
+said-append [] qs = refl
+said-append (p ∷ ps) qs =
+    ap (λ (es : List Event). silent (front p) ++ (verdict p ∷ es)) (said-append ps qs)
+    ∙ sym (append-assoc (silent (front p)) (verdict p ∷ saidBy ps) (saidBy qs))
+
+quiet : (bs : List ℕ) → map heardOf (silent bs) ≡ replicate (length bs) (heardOf silence)
+quiet [] = refl
+quiet (b ∷ bs) = ap (λ (hs : List Heard). heardOf silence ∷ hs) (quiet bs)
+
+-- what is written is bytes
+layout-bytes : (h : Handed) → length (h .payload) ≤ 255 → Bytes (layout (h .preambleCount) (written h))
+layout-bytes h k =
+    let d : delimiter (h .frameType) (isLong (h .address)) < 256 = omega (arith, delimiter-small (h .frameType) (isLong (h .address))) in
+    let inner : Bytes (body (written h)) =
+    (d, bytes-append (addressBytes (h .address)) (h .command ∷ length (h .payload) ∷ h .payload) (address-bytes-below (h .address) (h .addressRanged)) (h .commandSmall, (omega arith, h .payloadSmall))) in
+    bytes-append (preambles (h .preambleCount) ++ body (written h)) (checkOf (written h) ∷ [])
+    (bytes-append (preambles (h .preambleCount)) (body (written h)) (bytes-replicate (h .preambleCount) 255 (lit< tt)) inner)
+    (check-below 0 (body (written h)) (lit< tt) inner, tt)
+
+-- the frame that a reader is handed is the one that was handed over, if its address is within its limits
+told-back : (h : Handed) → Limited (h .address) → heardOf (found (written h)) ≡ heardBack h
+told-back h l = rw (address-back (h .address) l)
+
+pub written-heard : (h : Handed) → 5 ≤ h .preambleCount → Limited (h .address) → (before : List ℕ) (count : ℕ) (after : List ℕ) → IsDone h before count after
+    → (ps : List Piece) → AllHold ps → Bytes (joined ps) → HeardBehind h ps count after
+written-heard h enough limits before count after e ps hold small =
+    let n = h .preambleCount in
+    let z = encoded-whole (h .frameType) (h .address) (h .command) (h .payload) n before count after e in
+    let f = frame n (written h) in
+    let run = joined ps ++ take count after in
+    let fits : Fits (written h) = record { addressed = length-address (h .address); counted = z .short } in
+    let whole : run ≡ joined (ps ++ (f ∷ [])) ++ [] =
+    ap (λ (bs : List ℕ). joined ps ++ bs) (z .bytes ∙ sym (append-nil (bytesOf f))) ∙ sym (joined-append ps (f ∷ [])) ∙ sym (append-nil (joined (ps ++ (f ∷ [])))) in
+    let cut : Cut run (ps ++ (f ∷ [])) [] = record { pieces = hold-append ps (f ∷ []) hold ((enough, fits), tt); rest = nothing; whole = whole } in
+    let bytes : Bytes run = bytes-append (joined ps) (take count after) small (subst Bytes (sym (z .bytes)) (layout-bytes h (z .short))) in
+    let a = answered run bytes in
+    let one = a .only (ps ++ (f ∷ [])) [] cut in
+    let last : length (front f) ≡ count - 1 = omega (arith, ap length (z .bytes), length-append (front f) (checkOf (written h) ∷ []), length-layout (h .frameType) (h .address) (h .command) n (h .payload), z .totals) in
+    a .answers
+    ∙ ap₂ (λ (qs : List Piece) (u : List ℕ). map heardOf (dictated qs u)) (one .0) (one .1)
+    ∙ ap (map heardOf) (append-nil (saidBy (ps ++ (f ∷ []))) ∙ said-append ps (f ∷ []))
+    ∙ map-append heardOf (saidBy ps) (silent (front f) ++ (found (written h) ∷ []))
+    ∙ ap (λ (hs : List Heard). map heardOf (saidBy ps) ++ hs)
+    (map-append heardOf (silent (front f)) (found (written h) ∷ []) ∙ ap₂ (λ (hs : List Heard) (x : Heard). hs ++ (x ∷ [])) (quiet (front f) ∙ ap (λ (k : ℕ). replicate k (heardOf silence)) last) (told-back h limits))
+
+-- a frame of a shorter run is another one: too few bytes stand there for five preamble bytes and the same address and data
+long-read : (long : Bool) (bs : List ℕ) → isLong (readAddress long bs) ≡ long
+long-read false bs = refl
+long-read true bs = refl
+
+module _ (w : Wire) where
+  abbrev Short-run : List Piece → Type 0
+  Short-run ps = length (joined ps) < 9 + addressLength (w .long) + length (w .payload)
+
+  other-frame : (n : ℕ) (v : Wire) → 5 ≤ n → Fits v → length (bytesOf (frame n v)) < 9 + addressLength (w .long) + length (w .payload) → frameOf w ≢ frameOf v
+  other-frame n v h f k e =
+      let p : length (w .payload) ≡ length (v .payload) = ap (λ (g : Frame). g .length) e in
+      let l : w .long ≡ v .long = sym (long-read (w .long) (w .address)) ∙ ap (λ (g : Frame). isLong (g .address)) e ∙ long-read (v .long) (v .address) in
+      let a : addressLength (w .long) ≡ addressLength (v .long) = ap addressLength l in
+      omega (arith, length-frame n v (f .addressed))
+
+  shorter : (p : Piece) (ps : List Piece) → Short-run (p ∷ ps) → Short-run ps
+  shorter p ps k = omega (arith, length-append (bytesOf p) (joined ps))
+
+  lacks : (ps : List Piece) → AllHold ps → Short-run ps → Lacks (frameOf w) (map frameOf (gather framesIn (map verdict ps)))
+  lacks [] h k = tt
+  lacks (noise b ∷ ps) h k = lacks ps (h .1) (shorter (noise b) ps k)
+  lacks (shortRun n b ∷ ps) h k = lacks ps (h .1) (shorter (shortRun n b) ps k)
+  lacks (badDelimiter n b ∷ ps) h k = lacks ps (h .1) (shorter (badDelimiter n b) ps k)
+  lacks (frame n v ∷ ps) h k =
+      (other-frame n v (h .0 .0) (h .0 .1) (omega (arith, length-append (bytesOf (frame n v)) (joined ps))), lacks ps (h .1) (shorter (frame n v) ps k))
+  lacks (badCheck n v c ∷ ps) h k = lacks ps (h .1) (shorter (badCheck n v c) ps k)
+
+pub written-not-found : (h : Handed) → h .preambleCount ≤ 4 → (before : List ℕ) (count : ℕ) (after : List ℕ) → IsDone h before count after → NotFound h count after
+written-not-found h few before count after e =
+    let n = h .preambleCount in
+    let z = encoded-whole (h .frameType) (h .address) (h .command) (h .payload) n before count after e in
+    let run = take count after in
+    let bytes : Bytes run = subst Bytes (sym (z .bytes)) (layout-bytes h (z .short)) in
+    let a = answered run bytes in
+    let size : length run ≡ total n (isLong (h .address)) (length (h .payload)) = ap length (z .bytes) ∙ length-layout (h .frameType) (h .address) (h .command) n (h .payload) in
+    let short : length (joined (a .pieces)) < 9 + addressLength (isLong (h .address)) + length (h .payload) =
+    omega (arith, ap length (a .cut .whole), length-append (joined (a .pieces)) (a .rest)) in
+    subst (Lacks (frameOf (written h))) (sym (a .frames)) (lacks (written h) (a .pieces) (a .cut .pieces) short)

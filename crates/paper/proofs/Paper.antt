@@ -1,0 +1,71 @@
+-- Each example of the list of specs/Paper.antt comes out as document 01 says: one statement over the list. Text and frames that are written
+-- are computed as they stand; what a decoder hears is computed through the law that it hears what the scanner of the crate line gives.
+use Prim.Native.Nat.{ℕ}
+use mathlib.Core.Path.{_≡_, refl, ap, ap₂, _∙_}
+use mathlib.Core.Bool.{Bool, true, _&&_}
+use mathlib.Core.List.{List, [], _∷_, _++_, map}
+use lib.Dec.{ltb}
+use lib.ListN.{replicate}
+use borrow.Author.Tests.{ltb-true}
+use Rattle.octets.specs.Put.{firstParts}
+use Rattle.packed_string.specs.Text.{packGroup, unpackGroup, badPlace, cratePacked, crateUnpacked, standardPacked}
+use Rattle.types.specs.Delimiter.{delimiterOf}
+use Rattle.types.specs.Address.{addressBytes}
+use Rattle.line.specs.Pieces.{Bytes}
+use Rattle.line.specs.Events.{silence}
+use Rattle.line.specs.Runs.{says, ends}
+use Rattle.line.proofs.Scan.{hunt, scanWithin, scan, told}
+use Rattle.encode.specs.Encode.{encoded}
+use Rattle.framing.specs.Frames.{heardOf}
+use Rattle.framing.proofs.Zeros.{and-first, and-second}
+use Rattle.framing.proofs.Image.{real}
+use Rattle.framing.proofs.Demand.{heard-scanned, ends-scanned}
+use Rattle.framing.specs.declared.frame.Heard.{Heard}
+use Rattle.framing.specs.declared.decode.Decoder.{Decoder}
+use Rattle.paper.specs.Paper.{
+  Shown,
+  heard,
+  Example,
+  Reading,
+  reading,
+  request-0-behind,
+  wrong-check,
+  four-preambles,
+  no-delimiter,
+  check-no-preamble,
+  right-check-no-preamble,
+  long-request,
+  examples,
+}
+
+-- a list of bytes, by computing
+abbrev allSmall : List ℕ → Bool
+allSmall [] = true
+allSmall (b ∷ bs) = ltb b 256 && allSmall bs
+
+small : (bs : List ℕ) → allSmall bs ≡ true → Bytes bs
+small [] e = tt
+small (b ∷ bs) e = (ltb-true b 256 (and-first (ltb b 256) (allSmall bs) e), small bs (and-second (ltb b 256) (allSmall bs) e))
+
+-- an example of reading, by what the scanner gives
+reads : (r : Reading) → allSmall (r .run) ≡ true → map heardOf (map told (says scan hunt (r .run))) ≡ replicate (r .quiet) (heardOf silence) ++ r .then → ends scan hunt (r .run) ≡ hunt
+    → reading r .comes ≡ reading r .said
+reads r k h e =
+    let s = small (r .run) k in
+    ap₂ (λ (hs : List Heard) (d : Decoder). heard hs (d .state)) (heard-scanned (r .run) s ∙ h) (ends-scanned (r .run) s ∙ ap real e)
+
+both : (x y : Shown) (xs ys : List Shown) → x ≡ y → xs ≡ ys → x ∷ xs ≡ y ∷ ys
+both x y xs ys e es = ap₂ (λ (z : Shown) (zs : List Shown). z ∷ zs) e es
+
+pub examples-hold : map (λ (e : Example). e .comes) examples ≡ map (λ (e : Example). e .said) examples
+unfolding firstParts packGroup unpackGroup badPlace cratePacked crateUnpacked standardPacked delimiterOf scan scanWithin addressBytes encoded
+examples-hold =
+    both _ _ _ _ (reads (request-0-behind 5 9) refl refl refl)
+    (both _ _ _ _ (reads wrong-check refl refl refl)
+    (both _ _ _ _ (reads four-preambles refl refl refl)
+    (both _ _ _ _ (reads no-delimiter refl refl refl)
+    (both _ _ _ _ (reads check-no-preamble refl refl refl)
+    (both _ _ _ _ (reads right-check-no-preamble refl refl refl)
+    (both _ _ _ _ (reads (request-0-behind 256 260) refl refl refl)
+    (both _ _ _ _ (reads (request-0-behind 700 704) refl refl refl)
+    (both _ _ _ _ (reads long-request refl refl refl) refl))))))))

@@ -1,0 +1,131 @@
+-- Addresses written: how many bytes, that they are bytes, and that an address comes back from them exactly if it is within its limits.
+use Prim.Native.Nat.{ℕ, _+_, _/_, _%_, _^_, _≤_, _<_}
+use native.Mathlib.Omega.{arith}
+use native.Mathlib.Nat.{mod-eq-of-lt}
+use mathlib.Core.Path.{_≡_, refl, sym, ap, _∙_}
+use mathlib.Core.Bool.{Bool, true, false, cond}
+use mathlib.Core.List.{List, [], _++_, append-nil}
+use lib.Dec.{lit<, lit≤}
+use lib.ListN.{length, length-append}
+use borrow.Author.Tests.{eq-eqb, ne-eqb, lt-ltb, le-ltb}
+use Rattle.refusal.specs.Outcome.{wrote, refuses}
+use Rattle.octets.specs.Digits.{Below}
+use Rattle.octets.proofs.Digits.{from-digits, digits-below}
+use Rattle.types.specs.declared.address.MasterRole.{MasterRole}
+use Rattle.types.specs.declared.address.MasterRole.the-variants.{Primary, Secondary}
+use Rattle.types.specs.declared.address.Address.{Address}
+use Rattle.types.specs.declared.address.Address.the-variants.{Short, Long}
+use Rattle.types.specs.Bit.{bit}
+use Rattle.types.specs.Address.{
+  addressLength,
+  masterOf,
+  readAddress,
+  isLong,
+  reads,
+  refused,
+  decoded,
+  masterBit,
+  burstBit,
+  firstByte,
+  addressBytes,
+  addressWritten,
+  Limited,
+  Ranged,
+}
+
+pub address-length-le : (long : Bool) → addressLength long ≤ 5
+address-length-le false = lit≤ tt
+address-length-le true = lit≤ tt
+
+pub master-bit-le : (m : MasterRole) → masterBit m ≤ 128
+master-bit-le Primary = lit≤ tt
+master-bit-le Secondary = lit≤ tt
+
+pub burst-bit-le : (b : Bool) → burstBit b ≤ 64
+burst-bit-le false = lit≤ tt
+burst-bit-le true = lit≤ tt
+
+-- what a buffer has room for is written, and what it has none for is refused
+module _ (a : Address) (buffer : List ℕ) where
+  pub address-fits : addressLength (isLong a) ≤ length buffer → addressWritten a buffer ≡ wrote (addressBytes a) buffer
+  unfolding addressWritten
+  address-fits h = ap (λ (t : Bool). cond t (refuses 2 [] buffer) (wrote (addressBytes a) buffer)) (le-ltb (length buffer) (addressLength (isLong a)) h)
+
+  pub address-refused : length buffer < addressLength (isLong a) → addressWritten a buffer ≡ refuses 2 [] buffer
+  unfolding addressWritten
+  address-refused h = ap (λ (t : Bool). cond t (refuses 2 [] buffer) (wrote (addressBytes a) buffer)) (lt-ltb (length buffer) (addressLength (isLong a)) h)
+
+pub length-address : (a : Address) → length (addressBytes a) ≡ addressLength (isLong a)
+unfolding addressBytes
+length-address (Short m b p) = refl
+length-address (Long m b f t n) = refl
+
+-- the first byte, read
+module _ (low : ℕ) (small : low < 64) where
+  first-below : (m : MasterRole) (b : Bool) → firstByte m b low < 256
+  first-below m b = omega (arith, master-bit-le m, burst-bit-le b)
+
+  first-master : (m : MasterRole) (b : Bool) → masterOf (firstByte m b low) ≡ m
+  first-master Primary false = rw (eq-eqb ((128 + low) / 128 % 2) 1 (omega arith))
+  first-master Primary true = rw (eq-eqb ((192 + low) / 128 % 2) 1 (omega arith))
+  first-master Secondary false = rw (ne-eqb ((0 + low) / 128 % 2) 1 (omega arith))
+  first-master Secondary true = rw (ne-eqb ((64 + low) / 128 % 2) 1 (omega arith))
+
+  first-burst : (m : MasterRole) (b : Bool) → bit 6 (firstByte m b low) ≡ b
+  first-burst Primary false = ne-eqb ((128 + low) / 64 % 2) 1 (omega arith)
+  first-burst Primary true = eq-eqb ((192 + low) / 64 % 2) 1 (omega arith)
+  first-burst Secondary false = ne-eqb ((0 + low) / 64 % 2) 1 (omega arith)
+  first-burst Secondary true = eq-eqb ((64 + low) / 64 % 2) 1 (omega arith)
+
+  first-low : (m : MasterRole) (b : Bool) → firstByte m b low % 64 ≡ low
+  first-low Primary false = omega arith
+  first-low Primary true = omega arith
+  first-low Secondary false = omega arith
+  first-low Secondary true = omega arith
+
+pub address-bytes-below : (a : Address) → Ranged a → Below 256 (addressBytes a)
+unfolding addressBytes
+address-bytes-below (Short m b p) r = (first-below (p % 16) (omega arith) m b, tt)
+address-bytes-below (Long m b f t n) r = (first-below (f % 64) (omega arith) m b, (r .1, digits-below 256 3 n (lit< tt)))
+
+-- an address without the bits that are dropped
+abbrev kept : Address → Address
+kept (Short m b p) = Short m b (p % 16)
+kept (Long m b f t n) = Long m b (f % 64) t (n % 2 ^ 24)
+
+back : (a : Address) (rest : List ℕ) → readAddress (isLong a) (addressBytes a ++ rest) ≡ kept a
+unfolding addressBytes
+back (Short m b p) rest =
+    let low : p % 16 < 64 = omega arith in
+    let q : firstByte m b (p % 16) % 16 ≡ p % 16 = omega (arith, first-low (p % 16) low m b) in
+    rw (first-master (p % 16) low m b, first-burst (p % 16) low m b, q)
+back (Long m b f t n) rest =
+    let low : f % 64 < 64 = omega arith in
+    rw (first-master (f % 64) low m b, first-burst (f % 64) low m b, first-low (f % 64) low m b, from-digits 256 3 n (lit< tt))
+
+kept-limited : (a : Address) → Limited a → kept a ≡ a
+kept-limited (Short m b p) h = ap (Short m b) (omega arith)
+kept-limited (Long m b f t n) h = let e : f % 64 ≡ f = omega arith in rw (e, mod-eq-of-lt (h .1))
+
+limited-kept : (a : Address) → kept a ≡ a → Limited a
+limited-kept (Short m b p) e = let q : p % 16 ≡ p = cc in omega arith
+limited-kept (Long m b f t n) e = let q : f % 64 ≡ f = cc in let r : n % 2 ^ 24 ≡ n = cc in (omega arith, omega arith)
+
+-- written and then read, whatever stands behind: the same address comes back if it is within its limits, and only then
+module _ (a : Address) (rest : List ℕ) where
+  read-kept : decoded (isLong a) (addressBytes a ++ rest) ≡ reads (kept a) (addressLength (isLong a))
+  read-kept =
+      let bs = addressBytes a ++ rest in
+      let n = addressLength (isLong a) in
+      ap (λ (t : Bool). cond t (refused 3 []) (reads (readAddress (isLong a) bs) n)) (le-ltb (length bs) n (omega (arith, length-append (addressBytes a) rest, length-address a)))
+      ∙ ap (λ (x : Address). reads x n) (back a rest)
+
+  pub written-read : Limited a → decoded (isLong a) (addressBytes a ++ rest) ≡ reads a (addressLength (isLong a))
+  written-read h = read-kept ∙ ap (λ (x : Address). reads x (addressLength (isLong a))) (kept-limited a h)
+
+  pub read-limited : decoded (isLong a) (addressBytes a ++ rest) ≡ reads a (addressLength (isLong a)) → Limited a
+  read-limited e = let both : reads (kept a) (addressLength (isLong a)) ≡ reads a (addressLength (isLong a)) = sym read-kept ∙ e in limited-kept a (cc)
+
+-- the same of the bytes alone
+pub address-back : (a : Address) → Limited a → readAddress (isLong a) (addressBytes a) ≡ a
+address-back a h = ap (readAddress (isLong a)) (sym (append-nil (addressBytes a))) ∙ back a [] ∙ kept-limited a h
