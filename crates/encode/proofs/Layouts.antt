@@ -9,9 +9,9 @@ use lib.Seq.{take-at, drop-at}
 use lib.Dec.{ltb}
 use borrow.Author.Tests.{lt-ltb, le-ltb, ltb-true, ltb-false}
 use Rattle.refusal.specs.Outcome.{ends, done, wrote, refuses}
-use Rattle.types.specs.declared.delimiter.FrameType.{FrameType}
+use Rattle.fields.specs.declared.delimiter.FrameType.{FrameType}
 use Rattle.types.specs.declared.address.Address.{Address}
-use Rattle.types.specs.Delimiter.{delimiter}
+use Rattle.fields.specs.Delimiter.{delimiter}
 use Rattle.types.specs.Address.{addressLength, isLong, addressBytes}
 use Rattle.types.proofs.Addresses.{length-address}
 use Rattle.line.specs.Layout.{preambles, body}

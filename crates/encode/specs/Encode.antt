@@ -7,9 +7,9 @@ use mathlib.Core.List.{List, [], _∷_, _++_}
 use lib.ListN.{length, take, drop}
 use lib.Dec.{ltb}
 use Rattle.refusal.specs.Outcome.{Outcome, wrote, refuses}
-use Rattle.types.specs.declared.delimiter.FrameType.{FrameType}
+use Rattle.fields.specs.declared.delimiter.FrameType.{FrameType}
 use Rattle.types.specs.declared.address.Address.{Address}
-use Rattle.types.specs.Delimiter.{delimiter}
+use Rattle.fields.specs.Delimiter.{delimiter}
 use Rattle.types.specs.Address.{addressLength, isLong, addressBytes}
 use Rattle.line.specs.Layout.{Wire, preambles}
 use Rattle.line.specs.Pieces.{frame, bytesOf}

@@ -1,17 +1,17 @@
 // Document 01, 'Commands': what a response or a burst frame carries.
-use crate::reading::print_frame_type;
-use crate::report::Answer;
-use crate::report::count;
-use crate::report::print;
-use crate::report::print_answer;
-use crate::report::print_bytes;
-use crate::report::print_right;
-use crate::report::refused;
-use crate::report::refused_by;
-use crate::report::same_answer;
 use framing::PayloadVerdict;
 use framing::payload_part;
 use framing::payload_verdict;
+use report::Answer;
+use report::count;
+use report::print;
+use report::print_answer;
+use report::print_bytes;
+use report::print_frame_type;
+use report::print_right;
+use report::refused;
+use report::refused_by;
+use report::same_answer;
 use types::FrameType;
 
 // A payload that is carried counts as 0.

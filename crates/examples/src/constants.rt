@@ -1,6 +1,6 @@
 // Document 01, 'Modules': the numbers of consts.rs.
-use crate::report::print;
-use crate::report::print_right;
+use report::print;
+use report::print_right;
 use types::consts::DEFAULT_PREAMBLE_COUNT;
 use types::consts::MAX_DATA_LENGTH;
 use types::consts::MAX_FRAME_LENGTH;

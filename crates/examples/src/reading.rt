@@ -1,15 +1,18 @@
 // Document 01, 'How a run of bytes is cut': runs fed to one lent decoder. Nothing may be heard before
-// a run's last byte, and there what document 01 says.
-use crate::report::print;
-use crate::report::print_bytes;
-use crate::report::print_number;
-use crate::report::print_right;
+// a run's last byte, and there what document 01 says. At the end frames that are written here are
+// read.
 use framing::Answer;
 use framing::Decoder;
-use framing::Frame;
 use framing::Heard;
 use framing::State;
+use framing::encode_frame;
 use refusal::Refusal;
+use report::answer_of;
+use report::print;
+use report::print_bytes;
+use report::print_frame;
+use report::print_number;
+use report::print_right;
 use types::Address;
 use types::FrameType;
 use types::MasterRole;
@@ -19,82 +22,11 @@ ghost use lib.ListN.{length};
 // The longest run here: 700 FF and a frame.
 const ROOM: usize = 720;
 
-pub(crate) fn print_frame_type(frame_type: FrameType) {
-    match frame_type {
-        FrameType::Request => print(b"request"),
-        FrameType::Response => print(b"response"),
-        FrameType::Burst => print(b"burst"),
-    }
-}
-
-fn print_master(master: MasterRole, burst: bool) {
-    match master {
-        MasterRole::Primary => print(b", primary"),
-        MasterRole::Secondary => print(b", secondary"),
-    }
-    if burst {
-        print(b", in burst mode");
-    }
-}
-
-pub(crate) fn print_address(address: Address) {
-    match address {
-        Address::Short {
-            master,
-            burst,
-            poll_address,
-        } => {
-            print_master(master, burst);
-            print(b", polling ");
-            print_number(poll_address as usize);
-        }
-        Address::Long {
-            master,
-            burst,
-            manufacturer_id,
-            device_type,
-            device_id,
-        } => {
-            print_master(master, burst);
-            print(b", manufacturer ");
-            print_number(manufacturer_id as usize);
-            print(b", type ");
-            print_number(device_type as usize);
-            print(b", number ");
-            print_number(device_id as usize);
-        }
-    }
-}
-
-fn print_first(bytes: &[u8], n: usize) {
-    if bytes.len() < n {
-        return;
-    }
-    print_bytes(&bytes[..n]);
-}
-
-fn print_frame(frame: Frame) {
-    let frame_type = frame.frame_type;
-    let address = frame.address;
-    let data = frame.data;
-    let length = frame.length as usize;
-    print_frame_type(frame_type);
-    print_address(address);
-    print(b", command ");
-    print_number(frame.command as usize);
-    if length == 0 {
-        print(b", no data");
-        return;
-    }
-    print(b", data");
-    print_first(&data, length);
-}
-
 // A refusal's number and the bytes that it carries.
-pub(crate) struct Reason {
-    pub(crate) number: u32,
-    pub(crate) first: u8,
-    pub(crate) second: u8,
+struct Reason {
+    number: u32,
+    first: u8,
+    second: u8,
 }
 
 fn reason_of(refusal: Refusal) -> Reason {
@@ -131,7 +63,7 @@ fn print_reason(reason: Reason) {
     }
 }
 
-pub(crate) fn print_heard(heard: Heard) {
+fn print_heard(heard: Heard) {
     let answer = heard.answer;
     match answer {
         Answer::Silence => print(b"silence"),
@@ -153,7 +85,7 @@ fn put(run: &mut [u8], at: usize, bytes: &[u8])
     }
 }
 
-pub(crate) fn heard_of(run: &[u8], end: usize) -> Heard {
+fn heard_of(run: &[u8], end: usize) -> Heard {
     if run.len() < end {
         return lent::listen(run, 0);
     }
@@ -242,7 +174,7 @@ fn refused(preambles: usize, bytes: &[u8], number: u32, first: u8, second: u8) -
     right
 }
 
-pub(crate) fn is_found(answer: Answer) -> bool {
+fn is_found(answer: Answer) -> bool {
     match answer {
         Answer::Silence => false,
         Answer::Found => true,
@@ -317,10 +249,40 @@ fn six_preambles() -> bool {
     right
 }
 
+// A frame is written, and its bytes alone are fed to a new decoder, which finds it or does not.
+fn heard_back(preambles: u8, wanted: bool) -> bool {
+    let mut buffer = [0xEEu8; 20];
+    let address = Address::Short {
+        master: MasterRole::Primary,
+        burst: false,
+        poll_address: 0,
+    };
+    let answer = answer_of(encode_frame(
+        FrameType::Request,
+        address,
+        9,
+        b"",
+        preambles,
+        &mut buffer,
+    ));
+    let heard = heard_of(&buffer, answer.value);
+    let first = heard.answer;
+    print(b"written with preambles ");
+    print_number(preambles as usize);
+    print(b" and read: ");
+    print_heard(heard);
+    let right = is_found(first) == wanted;
+    print_right(right);
+    right
+}
+
 pub(crate) fn runs() -> bool {
     let a = frames();
     let b = refusals();
     let c = silences();
     let d = six_preambles();
-    a & b & c & d
+    let e = heard_back(5, true);
+    let f = heard_back(4, false);
+    let g = heard_back(0, false);
+    a & b & c & d & e & f & g
 }

@@ -11,9 +11,9 @@ use lib.Seq.{length-take-le, take-take}
 use borrow.Author.Tests.{eqb-true, ltb-true, leb-true}
 use Rattle.octets.specs.Check.{check, checkFrom}
 use Rattle.octets.proofs.Check.{check-first}
-use Rattle.types.specs.Delimiter.{delimiter}
+use Rattle.fields.specs.Delimiter.{delimiter}
 use Rattle.types.specs.Address.{addressLength}
-use Rattle.types.proofs.Delimiters.{delimiter-small}
+use Rattle.fields.proofs.Delimiters.{delimiter-small}
 use Rattle.types.proofs.Addresses.{address-length-le}
 use Rattle.line.specs.Pieces.{Bytes, Piece, noise, shortRun, badDelimiter, frame, badCheck}
 use Rattle.line.specs.Events.{Event, refusal}

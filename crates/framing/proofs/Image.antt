@@ -13,12 +13,12 @@ use lib.Seq.{set-append-left, take-at, drop-at}
 use borrow.Author.Tests.{eqb-true, eqb-false, eq-eqb, ne-eqb, ltb-true, ltb-false, lt-ltb, le-ltb, leb-true, leb-false, le-leb}
 use Rattle.octets.specs.Check.{check, checkFrom}
 use Rattle.octets.proofs.Check.{check-first, check-append, check-snoc, check-zeros}
-use Rattle.types.specs.declared.delimiter.FrameType.{FrameType}
-use Rattle.types.specs.declared.delimiter.Delimiter.{Delimiter}
-use Rattle.types.specs.declared.delimiter.Delimiter.the-variants.{Known, Unknown}
-use Rattle.types.specs.Delimiter.{delimiter, delimiterOf}
+use Rattle.fields.specs.declared.delimiter.FrameType.{FrameType}
+use Rattle.fields.specs.declared.delimiter.Delimiter.{Delimiter}
+use Rattle.fields.specs.declared.delimiter.Delimiter.the-variants.{Known, Unknown}
+use Rattle.fields.specs.Delimiter.{delimiter, delimiterOf}
 use Rattle.types.specs.Address.{addressLength}
-use Rattle.types.proofs.Delimiters.{Right, delimiter-right}
+use Rattle.fields.proofs.Delimiters.{Right, delimiter-right}
 use Rattle.types.proofs.Addresses.{address-length-le}
 use Rattle.line.specs.Layout.{Wire, Fits, checkOf}
 use Rattle.line.specs.Pieces.{Piece, noise, shortRun, frame, badCheck}

@@ -9,9 +9,9 @@ use mathlib.Core.List.{List, [], _∷_, _++_, map, append-assoc, append-nil, map
 use lib.Dec.{lit<}
 use lib.ListN.{length, take, replicate, length-append}
 use Rattle.octets.proofs.Check.{check-below}
-use Rattle.types.specs.Delimiter.{delimiter}
+use Rattle.fields.specs.Delimiter.{delimiter}
 use Rattle.types.specs.Address.{addressLength, readAddress, isLong, addressBytes, Limited}
-use Rattle.types.proofs.Delimiters.{delimiter-small}
+use Rattle.fields.proofs.Delimiters.{delimiter-small}
 use Rattle.types.proofs.Addresses.{length-address, address-bytes-below, address-back}
 use Rattle.line.specs.Layout.{Wire, Fits, preambles, body, checkOf}
 use Rattle.line.specs.Pieces.{Piece, noise, shortRun, badDelimiter, frame, badCheck, front, bytesOf, Bytes, joined, AllHold, Cut, nothing}

@@ -16,13 +16,13 @@ use borrow.Author.Tests.{eqb-true, eqb-false, eq-eqb, ne-eqb, lt-ltb, le-ltb, le
 use Rattle.octets.specs.Check.{check}
 use Rattle.octets.proofs.Check.{check-first, check-snoc}
 use Rattle.refusal.specs.declared.Refusal.the-variants.{InvalidDelimiter}
-use Rattle.types.specs.declared.delimiter.FrameType.{FrameType}
-use Rattle.types.specs.declared.delimiter.FrameType.the-variants.{Request, Response, Burst}
-use Rattle.types.specs.declared.delimiter.Delimiter.{Delimiter}
-use Rattle.types.specs.declared.delimiter.Delimiter.the-variants.{Known, Unknown}
-use Rattle.types.specs.Delimiter.{delimiter, delimiterOf}
+use Rattle.fields.specs.declared.delimiter.FrameType.{FrameType}
+use Rattle.fields.specs.declared.delimiter.FrameType.the-variants.{Request, Response, Burst}
+use Rattle.fields.specs.declared.delimiter.Delimiter.{Delimiter}
+use Rattle.fields.specs.declared.delimiter.Delimiter.the-variants.{Known, Unknown}
+use Rattle.fields.specs.Delimiter.{delimiter, delimiterOf}
 use Rattle.types.specs.Address.{addressLength}
-use Rattle.types.proofs.Delimiters.{Right, delimiter-right}
+use Rattle.fields.proofs.Delimiters.{Right, delimiter-right}
 use Rattle.line.specs.Layout.{Wire, Fits, preambles, checkOf}
 use Rattle.line.specs.Pieces.{Piece, noise, shortRun, frame, badCheck, Bytes}
 use Rattle.line.proofs.Bytes.{bytes-left, bytes-right}

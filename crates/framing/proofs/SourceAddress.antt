@@ -11,10 +11,11 @@ use lib.ListN.{length, getD}
 use borrow.Author.Tests.{eq-eqb, ne-eqb, lt-ltb, le-ltb, ltb-true, ltb-false}
 use Rattle.octets.specs.Digits.{fromDigits}
 use Rattle.octets.proofs.Digits.{below-at}
-use Rattle.types.specs.declared.address.MasterRole.the-variants.{Primary, Secondary}
+use Rattle.fields.specs.declared.first.MasterRole.the-variants.{Primary, Secondary}
 use Rattle.types.specs.declared.address.Address.the-variants.{Short, Long}
-use Rattle.types.specs.Bit.{bit}
-use Rattle.types.specs.Address.{addressLength, masterOf, shortAddress, readAddress, reads, refused, decoded}
+use Rattle.octets.specs.Bit.{bit}
+use Rattle.fields.specs.First.{masterOf}
+use Rattle.types.specs.Address.{addressLength, shortAddress, readAddress, reads, refused, decoded}
 use Rattle.line.specs.Pieces.{Bytes}
 use Rattle.framing.specs.Source.{okAddress, hasBit, sourceMaster, sourceAddress, readingOf}
 

@@ -3,8 +3,8 @@ use Prim.Native.Nat.{ℕ, _-_}
 use mathlib.Core.Bool.{false}
 use mathlib.Core.List.{List, [], _++_}
 use lib.ListN.{length, take, drop, replicate}
-use Rattle.types.specs.declared.delimiter.FrameType.the-variants.{Request}
-use Rattle.types.specs.declared.address.MasterRole.the-variants.{Secondary}
+use Rattle.fields.specs.declared.delimiter.FrameType.the-variants.{Request}
+use Rattle.fields.specs.declared.first.MasterRole.the-variants.{Secondary}
 use Rattle.types.specs.declared.address.Address.the-variants.{Short}
 use Rattle.types.specs.Address.{addressLength, readAddress}
 use Rattle.line.specs.Layout.{Wire}

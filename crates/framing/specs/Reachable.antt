@@ -5,7 +5,7 @@ use mathlib.Core.List.{List, [], _∷_, _++_}
 use lib.ListN.{take, drop}
 use lib.Dec.{eqb, ltb, leb}
 use Rattle.octets.specs.Check.{checkFrom}
-use Rattle.types.specs.Delimiter.{delimiter}
+use Rattle.fields.specs.Delimiter.{delimiter}
 use Rattle.types.specs.Address.{addressLength}
 use Rattle.framing.specs.Room.{addressRoom}
 use Rattle.framing.specs.declared.state.Head.{Head}

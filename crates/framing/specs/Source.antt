@@ -12,10 +12,10 @@ use Rattle.refusal.specs.declared.Refusal.{Refusal}
 use Rattle.refusal.specs.declared.Refusal.the-variants.{BufferTooShort, InvalidDelimiter, ChecksumMismatch}
 use Rattle.refusal.specs.Table.{numberOf, valuesOf}
 use Rattle.types.specs.Address.{Reading, reads, refused}
-use Rattle.types.specs.declared.delimiter.FrameType.{FrameType}
-use Rattle.types.specs.declared.delimiter.FrameType.the-variants.{Request, Response, Burst}
-use Rattle.types.specs.declared.address.MasterRole.{MasterRole}
-use Rattle.types.specs.declared.address.MasterRole.the-variants.{Primary, Secondary}
+use Rattle.fields.specs.declared.delimiter.FrameType.{FrameType}
+use Rattle.fields.specs.declared.delimiter.FrameType.the-variants.{Request, Response, Burst}
+use Rattle.fields.specs.declared.first.MasterRole.{MasterRole}
+use Rattle.fields.specs.declared.first.MasterRole.the-variants.{Primary, Secondary}
 use Rattle.types.specs.declared.address.Address.{Address}
 use Rattle.types.specs.declared.address.Address.the-variants.{Short, Long}
 use Rattle.framing.specs.Demand.{Call, feeds, resets}

@@ -6,10 +6,10 @@ use lib.ListN.{set}
 use lib.Bits.{bitXor}
 use lib.Dec.{eqb, ltb}
 use Rattle.refusal.specs.Table.{refusalOf}
-use Rattle.types.specs.declared.delimiter.FrameType.{FrameType}
-use Rattle.types.specs.declared.delimiter.Delimiter.{Delimiter}
-use Rattle.types.specs.declared.delimiter.Delimiter.the-variants.{Known, Unknown}
-use Rattle.types.specs.Delimiter.{delimiterOf}
+use Rattle.fields.specs.declared.delimiter.FrameType.{FrameType}
+use Rattle.fields.specs.declared.delimiter.Delimiter.{Delimiter}
+use Rattle.fields.specs.declared.delimiter.Delimiter.the-variants.{Known, Unknown}
+use Rattle.fields.specs.Delimiter.{delimiterOf}
 use Rattle.types.specs.Address.{addressLength}
 use Rattle.framing.specs.Room.{addressRoom}
 use Rattle.framing.specs.declared.state.Head.{Head}

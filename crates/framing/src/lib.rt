@@ -15,5 +15,6 @@ pub use frame::Heard;
 pub use payload::PayloadVerdict;
 pub use payload::payload_part;
 pub use payload::payload_verdict;
+pub use payload::typed_verdict;
 pub use state::Head;
 pub use state::State;

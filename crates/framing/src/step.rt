@@ -12,7 +12,7 @@ use types::read_delimiter;
 ghost use mathlib.Core.Path.{_≡_};
 ghost use Prim.Native.Nat.{_<_};
 ghost use lib.ListN.{length};
-ghost use Rattle.types.specs.Delimiter.{delimiterOf};
+ghost use Rattle.fields.specs.Delimiter.{delimiterOf};
 ghost use Rattle.framing.specs.Room.{addressRoom, room};
 ghost use Rattle.framing.specs.Step.{going, over, hunted, preambled, delimited, mixed, addressed, counted, loaded, checked, movedAt, storedAt, HasPlace};
 

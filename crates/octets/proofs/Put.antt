@@ -5,9 +5,9 @@ use native.Mathlib.Numerals.{add-one}
 use native.Mathlib.Omega.{arith}
 use mathlib.Core.Path.{_≡_, refl, sym, ap, _∙_}
 use mathlib.Core.List.{List, [], _∷_, _++_, append-assoc, append-nil}
-use lib.ListN.{length, take, drop, set, length-append, take-append-drop, length-drop, drop-of-length-le}
-use lib.Seq.{length-take-le, append-snoc, set-split, take-all, take-at, drop-at, drop-drop}
-use borrow.Rule.Slice.PartMut.{midOf, postOf, putMid}
+use lib.ListN.{length, take, drop, set, length-append, take-append-drop, length-take, length-drop}
+use lib.Seq.{length-take-le, append-snoc, set-split, take-at, drop-at, drop-drop, drop-append-le}
+use borrow.Rule.Slice.PartMut.{midOf, putMid}
 use Rattle.refusal.specs.Outcome.{done, ends, wrote}
 use Rattle.octets.specs.Put.{put}
 
@@ -84,14 +84,22 @@ put-behind l at bs =
     ap (λ (r : List ℕ). take at l ++ r) (put-front (drop at l) bs ∙ ap (λ (r : List ℕ). bs ++ r) (drop-drop (length bs) at l))
     ∙ sym (append-assoc (take at l) bs (drop (at + length bs) l))
 
--- a buffer's part from place `at` on, lent to a call that wrote `bs` to its front: they stand in the buffer at that place
-pub lent-put : (l : List ℕ) (at : ℕ) (bs : List ℕ) {part : List ℕ} → at ≤ length l → part ≡ bs ++ drop (length bs) (midOf at (length l - at) l) → putMid at (length l - at) l part ≡ put l at bs
-lent-put l at bs {part} h e =
-    let whole : midOf at (length l - at) l ≡ drop at l = take-all (length l - at) (drop at l) (omega (arith, length-drop at l)) in
-    let none : postOf at (length l - at) l ≡ [] = drop-of-length-le (drop at l) {i = length l - at} (omega (arith, length-drop at l)) in
-    ap (λ (r : List ℕ). take at l ++ (part ++ r)) none
-    ∙ ap (λ (r : List ℕ). take at l ++ r) (append-nil part ∙ e ∙ ap (λ (r : List ℕ). bs ++ drop (length bs) r) whole ∙ sym (put-front (drop at l) bs))
+-- a part of n bytes at place `at`, lent to a call that wrote `bs` to its front: they stand in the buffer at that place
+pub lent-part : (l : List ℕ) (at n : ℕ) (bs : List ℕ) {part : List ℕ} → at + length bs ≤ length l → length bs ≤ n → part ≡ bs ++ drop (length bs) (midOf at n l) → putMid at n l part ≡ put l at bs
+lent-part l at n bs {part} h k e =
+    let behind = drop at l in
+    let room : length bs ≤ length (take n behind) = omega (arith, length-take n behind, length-drop at l) in
+    let kept : drop (length bs) (take n behind) ++ drop n behind ≡ drop (length bs) behind = sym (drop-append-le (length bs) (take n behind) (drop n behind) room) ∙ ap (drop (length bs)) (take-append-drop n behind) in
+    ap (λ (r : List ℕ). take at l ++ r)
+    (ap (λ (r : List ℕ). r ++ drop n behind) e
+    ∙ append-assoc bs (drop (length bs) (take n behind)) (drop n behind)
+    ∙ ap (λ (r : List ℕ). bs ++ r) kept
+    ∙ sym (put-front behind bs))
     ∙ put-behind l at bs
+
+-- the same of all that stands from place `at` on
+pub lent-put : (l : List ℕ) (at : ℕ) (bs : List ℕ) {part : List ℕ} → at + length bs ≤ length l → part ≡ bs ++ drop (length bs) (midOf at (length l - at) l) → putMid at (length l - at) l part ≡ put l at bs
+lent-put l at bs h e = lent-part l at (length l - at) bs h (omega arith) e
 
 -- the answer and the buffer of a call that put `bs` at the front and counted them
 pub put-wrote : (l bs : List ℕ) {b : List ℕ} {n : ℕ} → b ≡ put l 0 bs → n ≡ length bs → ends (done (n ∷ [])) b ≡ wrote bs l

@@ -5,7 +5,7 @@ use mathlib.Core.List.{List, [], _∷_}
 use lib.ListN.{length}
 use borrow.Author.Tests.{lt-ltb, le-ltb, eq-eqb, ne-eqb}
 use Rattle.refusal.specs.Outcome.{wrote, refuses}
-use Rattle.packed_string.specs.declared.Mode.the-variants.{Crate, Standard}
+use Rattle.text_group.specs.declared.Mode.the-variants.{Crate, Standard}
 use Rattle.packed_string.specs.Text.{groups, packed, unpacked, badPlace, cratePacked, crateUnpacked, standardPacked, standardUnpacked}
 
 module _ (text buffer : List ℕ) where

@@ -13,13 +13,11 @@ use borrow.Author.Tests.{ltb-true, ltb-false}
 use Rattle.refusal.specs.Outcome.{wrote}
 use Rattle.octets.specs.Put.{firstParts}
 use Rattle.octets.proofs.Parts.{parts-zero, parts-suc}
-use Rattle.packed_string.specs.declared.Mode.{Mode}
-use Rattle.packed_string.specs.declared.Mode.the-variants.{Crate, Standard}
+use Rattle.text_group.specs.declared.Mode.{Mode}
+use Rattle.text_group.specs.declared.Mode.the-variants.{Crate, Standard}
+use Rattle.text_group.specs.Group.{codeOf, charOf, packGroup, unpackGroup}
+use Rattle.text_group.proofs.Group.{code-below, group-back}
 use Rattle.packed_string.specs.Text.{
-  codeOf,
-  charOf,
-  packGroup,
-  unpackGroup,
   charsAt,
   bytesAt,
   packedGroup,
@@ -36,7 +34,7 @@ use Rattle.packed_string.specs.Text.{
   Coded,
   Plain,
 }
-use Rattle.packed_string.proofs.Groups.{code-below, group-back, length-packed}
+use Rattle.packed_string.proofs.Groups.{length-packed}
 use Rattle.packed_string.proofs.BadPlace.{plain-place}
 use Rattle.packed_string.proofs.Calls.{crate-packs, crate-unpacks, standard-packs, standard-unpacks}
 

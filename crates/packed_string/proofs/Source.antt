@@ -13,14 +13,16 @@ use borrow.Author.Tests.{ltb-true, ltb-false, lt-ltb}
 use Rattle.refusal.specs.Outcome.{ends, done, wrote}
 use Rattle.octets.specs.Digits.{Below}
 use Rattle.octets.specs.Put.{put, firstParts}
-use Rattle.octets.specs.Source.{Run, comes, shiftRight, asU8}
+use Rattle.octets.specs.Source.{Run, comes, shiftRight, asU8, shiftLeft}
 use Rattle.octets.proofs.Digits.{below-at}
 use Rattle.octets.proofs.Put.{length-put, put-wrote, stores-put}
 use Rattle.octets.proofs.Parts.{length-parts, parts-start, parts-turn}
-use Rattle.packed_string.specs.declared.Mode.the-variants.{Crate}
-use Rattle.packed_string.specs.Text.{codeOf, charOf, packGroup, unpackGroup, packedGroup, unpackedGroup, groups, cratePacked, crateUnpacked}
-use Rattle.packed_string.specs.Source.{divCeil, shiftLeft, groupLoop, sourceCode, storeBytes, encodeTurn, sourceEncoded, storeChars, decodeGroup, decodeTurn, sourceDecoded}
-use Rattle.packed_string.proofs.Groups.{code-below, pack-group, unpack-group, packed-sized, unpacked-sized}
+use Rattle.text_group.specs.declared.Mode.the-variants.{Crate}
+use Rattle.text_group.specs.Group.{codeOf, charOf, packGroup, unpackGroup}
+use Rattle.text_group.proofs.Group.{code-below, pack-group, unpack-group}
+use Rattle.packed_string.specs.Text.{packedGroup, unpackedGroup, groups, cratePacked, crateUnpacked}
+use Rattle.packed_string.specs.Source.{divCeil, groupLoop, sourceCode, storeBytes, encodeTurn, sourceEncoded, storeChars, decodeGroup, decodeTurn, sourceDecoded}
+use Rattle.packed_string.proofs.Groups.{packed-sized, unpacked-sized}
 use Rattle.packed_string.proofs.Calls.{crate-packs, crate-unpacks}
 
 -- The loop, for groups of any size, of which there are n: it writes as many as there are, or as fit.
@@ -64,14 +66,14 @@ module _ (size : ℕ)
       ap (λ (m : ℕ). groupLoop size turn n 0 m dst) (sym (zero-mul size)) ∙ loop-comes n 0 dst dst (parts-start group dst) (rw zero-mul (omega arith)) (omega arith)
 
 -- a value shifted left in a u16, a lower one beside it, and of both the low byte
-low-byte : (x k y : ℕ) → x * 2 ^ k < 65536 → y < 2 ^ k → asU8 (bitOr (shiftLeft x k) y) ≡ (x * 2 ^ k + y) % 256
+low-byte : (x k y : ℕ) → x * 2 ^ k < 65536 → y < 2 ^ k → asU8 (bitOr (shiftLeft 16 x k) y) ≡ (x * 2 ^ k + y) % 256
 low-byte x k y h low = ap asU8 (ap (λ (z : ℕ). bitOr z y) (mod-eq-of-lt h) ∙ or-shifted x k y low)
 
 store-bytes : (a b c d at : ℕ) (dst : List ℕ) (rest : List ℕ → Run) → a < 64 → b < 64 → c < 64 → d < 64 → at + 3 ≤ length dst → storeBytes a b c d at dst rest ≡ rest (put dst at (packGroup (a ∷ b ∷ c ∷ d ∷ [])))
 store-bytes a b c d at dst rest ha hb hc hd h =
-    let v0 = asU8 (bitOr (shiftLeft a 2) (shiftRight b 4)) in
-    let v1 = asU8 (bitOr (shiftLeft b 4) (shiftRight c 2)) in
-    let v2 = asU8 (bitOr (shiftLeft c 6) d) in
+    let v0 = asU8 (bitOr (shiftLeft 16 a 2) (shiftRight b 4)) in
+    let v1 = asU8 (bitOr (shiftLeft 16 b 4) (shiftRight c 2)) in
+    let v2 = asU8 (bitOr (shiftLeft 16 c 6) d) in
     let e0 : v0 ≡ a * 4 + b / 16 = low-byte a 2 (b / 16) (omega arith) (omega arith) ∙ omega arith in
     let e1 : v1 ≡ b % 16 * 16 + c / 4 = low-byte b 4 (c / 4) (omega arith) (omega arith) ∙ omega arith in
     let e2 : v2 ≡ c % 4 * 64 + d = low-byte c 6 d (omega arith) (omega arith) ∙ omega arith in
@@ -108,12 +110,12 @@ store-chars a b c d at dst rest ha hb hc hd h =
 decode-group : (a b c at : ℕ) (dst : List ℕ) (rest : List ℕ → Run) → a < 256 → b < 256 → c < 256 → at + 4 ≤ length dst → decodeGroup a b c at dst rest ≡ rest (put dst at (map (charOf Crate) (unpackGroup (a ∷ b ∷ c ∷ []))))
 decode-group a b c at dst rest ha hb hc h =
     let c0 = shiftRight a 2 in
-    let c1 = bitOr (shiftLeft (bitAnd a 0x03) 4) (shiftRight b 4) in
-    let c2 = bitOr (shiftLeft (bitAnd b 0x0F) 2) (shiftRight c 6) in
+    let c1 = bitOr (shiftLeft 16 (bitAnd a 0x03) 4) (shiftRight b 4) in
+    let c2 = bitOr (shiftLeft 16 (bitAnd b 0x0F) 2) (shiftRight c 6) in
     let c3 = bitAnd c 0x3F in
     let e0 : asU8 c0 ≡ a / 4 = omega arith in
-    let e1 : asU8 c1 ≡ a % 4 * 16 + b / 16 = ap (λ (k : ℕ). asU8 (bitOr (shiftLeft k 4) (shiftRight b 4))) (and-mask a 2) ∙ low-byte (a % 4) 4 (b / 16) (omega arith) (omega arith) ∙ omega arith in
-    let e2 : asU8 c2 ≡ b % 16 * 4 + c / 64 = ap (λ (k : ℕ). asU8 (bitOr (shiftLeft k 2) (shiftRight c 6))) (and-mask b 4) ∙ low-byte (b % 16) 2 (c / 64) (omega arith) (omega arith) ∙ omega arith in
+    let e1 : asU8 c1 ≡ a % 4 * 16 + b / 16 = ap (λ (k : ℕ). asU8 (bitOr (shiftLeft 16 k 4) (shiftRight b 4))) (and-mask a 2) ∙ low-byte (a % 4) 4 (b / 16) (omega arith) (omega arith) ∙ omega arith in
+    let e2 : asU8 c2 ≡ b % 16 * 4 + c / 64 = ap (λ (k : ℕ). asU8 (bitOr (shiftLeft 16 k 2) (shiftRight c 6))) (and-mask b 4) ∙ low-byte (b % 16) 2 (c / 64) (omega arith) (omega arith) ∙ omega arith in
     let e3 : asU8 c3 ≡ c % 64 = ap asU8 (and-mask c 6) ∙ omega arith in
     let codes : asU8 c0 ∷ asU8 c1 ∷ asU8 c2 ∷ asU8 c3 ∷ [] ≡ unpackGroup (a ∷ b ∷ c ∷ []) = rw (e0, e1, e2, e3) (unpack-group a b c ha hb hc) in
     store-chars c0 c1 c2 c3 at dst rest (rw e0 (omega arith)) (rw e1 (omega arith)) (rw e2 (omega arith)) (rw e3 (omega arith)) h

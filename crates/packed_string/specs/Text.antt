@@ -5,27 +5,10 @@ use mathlib.Core.List.{List, [], _∷_, _++_, map}
 use lib.ListN.{length, getD, replicate}
 use lib.Dec.{ltb, leb, eqb}
 use Rattle.refusal.specs.Outcome.{Outcome, wrote, refuses}
-use Rattle.octets.specs.Digits.{digits, fromDigits}
 use Rattle.octets.specs.Put.{firstParts}
-use Rattle.packed_string.specs.declared.Mode.{Mode}
-use Rattle.packed_string.specs.declared.Mode.the-variants.{Crate, Standard}
-
--- A group: four codes of six bits and three bytes are the digits, the highest first, of one and the same 24-bit number.
-unfoldable pub packGroup : List ℕ → List ℕ
-packGroup codes = digits 256 3 (fromDigits 64 codes)
-
-unfoldable pub unpackGroup : List ℕ → List ℕ
-unpackGroup bytes = digits 64 4 (fromDigits 256 bytes)
-
--- The code of a character: crate mode takes 0x20 off, stopping at 0, and keeps six bits; standard mode just keeps six bits.
-abbrev pub codeOf : Mode → ℕ → ℕ
-codeOf Crate character = (character - 0x20) % 64
-codeOf Standard character = character % 64
-
--- The character of a code: 0x20 more in crate mode; in standard mode 64 more where the code is below 32.
-abbrev pub charOf : Mode → ℕ → ℕ
-charOf Crate code = code + 0x20
-charOf Standard code = cond (ltb code 32) (code + 64) code
+use Rattle.text_group.specs.declared.Mode.{Mode}
+use Rattle.text_group.specs.declared.Mode.the-variants.{Crate, Standard}
+use Rattle.text_group.specs.Group.{packGroup, unpackGroup, codeOf, charOf}
 
 -- Group g of a text, with spaces past its end, and of packed bytes.
 abbrev pub charsAt : List ℕ → ℕ → List ℕ

@@ -1,18 +1,12 @@
-// Groups of packed text, one each way and runs of them. Where the Rust shifts and masks stand `/` and
-// `%`.
-use crate::Mode;
+// Groups of packed text at their places, one each way and runs of them.
+use text_group::Mode;
+use text_group::packed_group;
+use text_group::unpacked_group;
 ghost use mathlib.Core.Path.{_≡_};
-ghost use Prim.Native.Nat.{_+_, _*_, _-_, _≤_, _<_, min};
-ghost use mathlib.Core.List.{[], _∷_};
+ghost use Prim.Native.Nat.{_+_, _*_, _≤_, min};
 ghost use lib.ListN.{length, getD};
 ghost use Rattle.octets.specs.Put.{put};
-ghost use Rattle.packed_string.specs.Text.{codeOf, charOf, packGroup, unpackGroup, groups, packedGroup, unpackedGroup, packed, unpacked};
-
-fn saturating_sub(a: u8, b: u8) -> u8
-    ensures { λ r. ⌜ r ≡ a - b ⌝ }
-{
-    if a < b { 0 } else { a - b }
-}
+ghost use Rattle.packed_string.specs.Text.{groups, packedGroup, unpackedGroup, packed, unpacked};
 
 // The Rust's `div_ceil`, by 4: no sum of a length is formed.
 pub(crate) fn groups_of(n: usize) -> usize
@@ -27,53 +21,14 @@ pub(crate) fn least(a: usize, b: usize) -> usize
     if a <= b { a } else { b }
 }
 
-fn code(mode: Mode, c: u8) -> u8
-    ensures { λ r. ⌜ r ≡ codeOf mode c ⌝ }
-{
-    match mode {
-        Mode::Crate => saturating_sub(c, 0x20) % 64,
-        Mode::Standard => c % 64,
-    }
-}
-
-fn character(mode: Mode, code: u8) -> u8
-    requires { ⌜ code < 64 ⌝ }
-    ensures { λ r. ⌜ r ≡ charOf mode code ⌝ }
-{
-    match mode {
-        Mode::Crate => code + 0x20,
-        Mode::Standard => if code < 32 { code + 64 } else { code },
-    }
-}
-
-// The code of the character at a place; past the end of the text stands a space.
-fn code_at(mode: Mode, src: &[u8], i: usize) -> u8
-    ensures { λ r. ⌜ r ≡ codeOf mode (getD (now (src .entry)) i 0x20) ⌝ }
+// The character at a place; past the end of the text stands a space.
+fn character_at(src: &[u8], i: usize) -> u8
+    ensures { λ r. ⌜ r ≡ getD (now (src .entry)) i 0x20 ⌝ }
 {
     if i < src.len() {
-        return code(mode, src[i]);
+        return src[i];
     }
-    code(mode, 0x20)
-}
-
-// Three bytes from four codes.
-fn pack_group(c0: u8, c1: u8, c2: u8, c3: u8) -> [u8; 3]
-    requires { ⌜ (c0 < 64) × (c1 < 64) × (c2 < 64) × (c3 < 64) ⌝ }
-    ensures { λ r. ⌜ r ≡ packGroup (c0 ∷ c1 ∷ c2 ∷ c3 ∷ []) ⌝ }
-{
-    [c0 * 4 + c1 / 16, c1 % 16 * 16 + c2 / 4, c2 % 4 * 64 + c3]
-}
-
-// Four codes from three bytes.
-fn unpack_group(b0: u8, b1: u8, b2: u8) -> [u8; 4]
-    ensures { λ r. ⌜ r ≡ unpackGroup (b0 ∷ b1 ∷ b2 ∷ []) ⌝ }
-{
-    [
-        b0 / 4,
-        b0 % 4 * 16 + b1 / 16,
-        b1 % 16 * 4 + b2 / 64,
-        b2 % 64,
-    ]
+    b' '
 }
 
 // Group g of the text, at its place in dst. The text reaches up to the group, so that no place in it
@@ -83,11 +38,11 @@ fn put_packed(mode: Mode, src: &[u8], g: usize, dst: &mut [u8])
     ensures { λ _. ⌜ now (dst .exit) ≡ put (now (dst .entry)) (g * 3) (packedGroup mode (now (src .entry)) g) ⌝ }
 {
     let base = g * 4;
-    let c0 = code_at(mode, src, base);
-    let c1 = code_at(mode, src, base + 1);
-    let c2 = code_at(mode, src, base + 2);
-    let c3 = code_at(mode, src, base + 3);
-    let bytes = pack_group(c0, c1, c2, c3);
+    let c0 = character_at(src, base);
+    let c1 = character_at(src, base + 1);
+    let c2 = character_at(src, base + 2);
+    let c3 = character_at(src, base + 3);
+    let bytes = packed_group(mode, c0, c1, c2, c3);
     let written = g * 3;
     dst[written] = bytes[0];
     dst[written + 1] = bytes[1];
@@ -100,12 +55,12 @@ fn put_unpacked(mode: Mode, src: &[u8], g: usize, dst: &mut [u8])
     ensures { λ _. ⌜ now (dst .exit) ≡ put (now (dst .entry)) (g * 4) (unpackedGroup mode (now (src .entry)) g) ⌝ }
 {
     let base = g * 3;
-    let codes = unpack_group(src[base], src[base + 1], src[base + 2]);
+    let characters = unpacked_group(mode, src[base], src[base + 1], src[base + 2]);
     let written = g * 4;
-    dst[written] = character(mode, codes[0]);
-    dst[written + 1] = character(mode, codes[1]);
-    dst[written + 2] = character(mode, codes[2]);
-    dst[written + 3] = character(mode, codes[3]);
+    dst[written] = characters[0];
+    dst[written + 1] = characters[1];
+    dst[written + 2] = characters[2];
+    dst[written + 3] = characters[3];
 }
 
 // The text's first n groups, at the front of dst.

@@ -10,16 +10,11 @@ use group::unpack;
 pub use standard::bad_place;
 pub use standard::decode_standard;
 pub use standard::encode_standard;
+pub use text_group::Mode;
 ghost use mathlib.Core.Path.{_≡_};
 ghost use mathlib.Core.List.{[], _∷_};
 ghost use Rattle.refusal.specs.Outcome.{done, ends};
 ghost use Rattle.packed_string.specs.Text.{cratePacked, crateUnpacked};
-
-// How a character becomes a code, and a code a character.
-pub enum Mode {
-    Crate,
-    Standard,
-}
 
 // Packs as many whole groups of the text as fit and tells how many bytes it wrote.
 pub fn encode_packed(src: &[u8], dst: &mut [u8]) -> usize

@@ -1,10 +1,10 @@
 // Packed text in the standard mode (ADDED): the whole text or bytes, or a refusal.
-use crate::Mode;
 use crate::group::groups_of;
 use crate::group::pack;
 use crate::group::unpack;
 use refusal::Refusal;
 use refusal::Written;
+use text_group::Mode;
 ghost use mathlib.Core.Path.{_≡_};
 ghost use Rattle.refusal.specs.Outcome.{ends, replyOf};
 ghost use Rattle.packed_string.specs.Text.{standardPacked, standardUnpacked, badPlace};

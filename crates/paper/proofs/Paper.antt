@@ -8,8 +8,9 @@ use lib.Dec.{ltb}
 use lib.ListN.{replicate}
 use borrow.Author.Tests.{ltb-true}
 use Rattle.octets.specs.Put.{firstParts}
-use Rattle.packed_string.specs.Text.{packGroup, unpackGroup, badPlace, cratePacked, crateUnpacked, standardPacked}
-use Rattle.types.specs.Delimiter.{delimiterOf}
+use Rattle.text_group.specs.Group.{packGroup, unpackGroup}
+use Rattle.packed_string.specs.Text.{badPlace, cratePacked, crateUnpacked, standardPacked}
+use Rattle.fields.specs.Delimiter.{delimiterOf}
 use Rattle.types.specs.Address.{addressBytes}
 use Rattle.line.specs.Pieces.{Bytes}
 use Rattle.line.specs.Events.{silence}

@@ -6,8 +6,8 @@ use mathlib.Core.List.{List, [], _∷_, _++_}
 use lib.ListN.{replicate}
 use Rattle.refusal.specs.Outcome.{Outcome, ends, done, refused}
 use Rattle.packed_string.specs.Text.{cratePacked, crateUnpacked, standardPacked}
-use Rattle.types.specs.declared.delimiter.FrameType.the-variants.{Request}
-use Rattle.types.specs.declared.address.MasterRole.the-variants.{Primary}
+use Rattle.fields.specs.declared.delimiter.FrameType.the-variants.{Request}
+use Rattle.fields.specs.declared.first.MasterRole.the-variants.{Primary}
 use Rattle.types.specs.declared.address.Address.{Address}
 use Rattle.types.specs.declared.address.Address.the-variants.{Short, Long}
 use Rattle.line.specs.Layout.{preambles}

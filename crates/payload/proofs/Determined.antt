@@ -10,9 +10,11 @@ use Rattle.payload.proofs.payload_verdict.Kinds as payload-verdict-kind
 use Rattle.payload.proofs.payload_verdict.Reads as payload-verdict-reads
 use Rattle.payload.proofs.payload_part.Kinds as payload-part-kinds
 use Rattle.payload.proofs.payload_part.Reads as payload-part-reads
+use Rattle.payload.proofs.typed_verdict.Kinds as typed-verdict-kinds
+use Rattle.payload.proofs.typed_verdict.Reads as typed-verdict-reads
 
 -- an answer is known by what it says
-verdict-known : (r s : PayloadVerdict) → judgementOf r ≡ judgementOf s → r ≡ s
+pub verdict-known : (r s : PayloadVerdict) → judgementOf r ≡ judgementOf s → r ≡ s
 verdict-known Carried Carried e = refl
 verdict-known Carried (Refused s) e = cc
 verdict-known (Refused r) Carried e = cc
@@ -23,3 +25,6 @@ payload-verdict κs a r s x y = λ p q. (verdict-known r s (p ∙ sym q), refl)
 
 pub payload-part : DeterminedPart 1 payload-part-kinds.ps payload-part-kinds.r (λ κs r. partOf r) payload-part-reads.Post (λ κs x. tt {0})
 payload-part κs a r s x y = agree-alone
+
+pub typed-verdict : Determined 1 typed-verdict-kinds.ps typed-verdict-kinds.r typed-verdict-reads.Post (λ κs x. tt {0})
+typed-verdict κs a r s x y = λ p q. (verdict-known r s (p ∙ sym q), refl)

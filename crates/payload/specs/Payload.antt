@@ -2,13 +2,13 @@
 use Prim.Native.Nat.{ℕ}
 use mathlib.Core.Bool.{Bool, true, false, cond, not}
 use mathlib.Core.List.{List, [], _∷_}
-use lib.ListN.{length, getD}
+use lib.ListN.{length, getD, drop}
 use lib.Dec.{eqb, ltb}
 use Rattle.refusal.specs.Table.{numberOf, valuesOf}
 use Rattle.octets.specs.Part.{Part, from, emptyAt}
-use Rattle.types.specs.Bit.{bit}
-use Rattle.types.specs.declared.delimiter.FrameType.{FrameType}
-use Rattle.types.specs.declared.delimiter.FrameType.the-variants.{Request, Response, Burst}
+use Rattle.octets.specs.Bit.{bit}
+use Rattle.fields.specs.declared.delimiter.FrameType.{FrameType}
+use Rattle.fields.specs.declared.delimiter.FrameType.the-variants.{Request, Response, Burst}
 use Rattle.payload.specs.declared.PayloadVerdict.{PayloadVerdict}
 use Rattle.payload.specs.declared.PayloadVerdict.the-variants.{Carried, Refused}
 
@@ -44,3 +44,12 @@ handedBack (refused number values) = false
 -- what is left behind the two status bytes, or nothing, at the start
 unfoldable pub payloadPart : FrameType → Part → Part
 payloadPart t p = cond (handedBack (payload t (p .bytes))) (from 2 p) (emptyAt p)
+
+-- a typed reading asks for a command: 6 for any other, as for a request, comes before what the data are judged for
+unfoldable pub typed : ℕ → FrameType → ℕ → List ℕ → Judgement
+typed wanted t command ds = cond (eqb command wanted) (payload t ds) (refused 6 [])
+
+-- it takes the judgement apart: what is carried, behind the status bytes, is read, and a refusal is passed on as it is
+abbrev pub passedOn : {A : Type 0} → (List ℕ → A) → (ℕ → List ℕ → A) → Judgement → List ℕ → A
+passedOn read refuse carries ds = read (drop 2 ds)
+passedOn read refuse (refused number values) ds = refuse number values

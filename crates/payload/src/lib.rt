@@ -1,10 +1,10 @@
 // The payload of a response or a burst frame: document 01, 'Commands'. The verdict and the part are
 // two functions, since an enum holds no slice.
+use fields::FrameType;
 use refusal::Refusal;
-use types::FrameType;
 ghost use mathlib.Core.Path.{_≡_};
 ghost use Rattle.octets.specs.Part.{partOf};
-ghost use Rattle.payload.specs.Payload.{judgementOf, judged, payload, payloadPart};
+ghost use Rattle.payload.specs.Payload.{judgementOf, judged, payload, payloadPart, typed};
 
 pub enum PayloadVerdict {
     Carried,
@@ -49,4 +49,14 @@ pub fn payload_part(frame_type: FrameType, data: &[u8]) -> &[u8]
         PayloadVerdict::Carried => &data[2..],
         PayloadVerdict::Refused(_) => &data[..0],
     }
+}
+
+// Whether the data carry what a command's own reader asks for: the frame must be of that command.
+pub fn typed_verdict(wanted: u8, frame_type: FrameType, command: u8, data: &[u8]) -> PayloadVerdict
+    ensures { λ r. ⌜ judgementOf r ≡ typed wanted «frame_type» command (now («data» .entry)) ⌝ }
+{
+    if command == wanted {
+        return payload_verdict(frame_type, data);
+    }
+    PayloadVerdict::Refused(Refusal::WrongFrame)
 }

@@ -9,23 +9,21 @@ use lib.Dec.{lit<, lit≤}
 use lib.ListN.{length, length-append}
 use borrow.Author.Tests.{eq-eqb, ne-eqb, lt-ltb, le-ltb}
 use Rattle.refusal.specs.Outcome.{wrote, refuses}
+use Rattle.octets.specs.Bit.{bit}
 use Rattle.octets.specs.Digits.{Below}
 use Rattle.octets.proofs.Digits.{from-digits, digits-below}
-use Rattle.types.specs.declared.address.MasterRole.{MasterRole}
-use Rattle.types.specs.declared.address.MasterRole.the-variants.{Primary, Secondary}
+use Rattle.fields.specs.declared.first.MasterRole.{MasterRole}
+use Rattle.fields.specs.declared.first.MasterRole.the-variants.{Primary, Secondary}
+use Rattle.fields.specs.First.{masterOf, masterBit, burstBit}
 use Rattle.types.specs.declared.address.Address.{Address}
 use Rattle.types.specs.declared.address.Address.the-variants.{Short, Long}
-use Rattle.types.specs.Bit.{bit}
 use Rattle.types.specs.Address.{
   addressLength,
-  masterOf,
   readAddress,
   isLong,
   reads,
   refused,
   decoded,
-  masterBit,
-  burstBit,
   firstByte,
   addressBytes,
   addressWritten,

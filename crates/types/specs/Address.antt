@@ -7,9 +7,9 @@ use lib.Dec.{ltb}
 use Rattle.refusal.specs.Table.{numberOf, valuesOf}
 use Rattle.refusal.specs.Outcome.{Outcome, wrote, refuses}
 use Rattle.octets.specs.Digits.{fromDigits, digits}
-use Rattle.types.specs.Bit.{bit}
-use Rattle.types.specs.declared.address.MasterRole.{MasterRole}
-use Rattle.types.specs.declared.address.MasterRole.the-variants.{Primary, Secondary}
+use Rattle.octets.specs.Bit.{bit}
+use Rattle.fields.specs.First.{masterOf, masterBit, burstBit}
+use Rattle.fields.specs.declared.first.MasterRole.{MasterRole}
 use Rattle.types.specs.declared.address.Address.{Address}
 use Rattle.types.specs.declared.address.Address.the-variants.{Short, Long}
 use Rattle.types.specs.declared.address.AddressRead.{AddressRead}
@@ -19,10 +19,6 @@ use Rattle.types.specs.declared.address.AddressRead.the-variants.{Read, 
 abbrev pub addressLength : Bool → ℕ
 addressLength false = 1
 addressLength true = 5
-
--- bit 7 of the first byte
-abbrev pub masterOf : ℕ → MasterRole
-masterOf first = cond (bit 7 first) Primary Secondary
 
 -- bit 6 burst; the low 4 bits are the polling address, and bits 5 and 4 say nothing
 abbrev pub shortAddress : ℕ → Address
@@ -53,15 +49,7 @@ readOf (Refused r) = refused (numberOf r) (valuesOf r)
 abbrev pub decoded : Bool → List ℕ → Reading
 decoded long bs = cond (ltb (length bs) (addressLength long)) (refused 3 []) (reads (readAddress long bs) (addressLength long))
 
--- bits 7 and 6 of the first byte as they are written, over a field of the lower bits
-abbrev pub masterBit : MasterRole → ℕ
-masterBit Primary = 0x80
-masterBit Secondary = 0
-
-abbrev pub burstBit : Bool → ℕ
-burstBit false = 0
-burstBit true = 0x40
-
+-- the two bits over a field of the lower ones
 abbrev pub firstByte : MasterRole → Bool → ℕ → ℕ
 firstByte master burst low = masterBit master + burstBit burst + low
 

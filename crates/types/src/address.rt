@@ -1,9 +1,13 @@
 // Addresses: one byte or five on the line.
-use crate::bits::has_bit;
-use crate::consts::address::BURST_MODE_BIT;
-use crate::consts::address::MANUFACTURER_ID_MASK;
-use crate::consts::address::PRIMARY_MASTER_BIT;
-use crate::consts::address::SHORT_ADDRESS_MASK;
+use fields::MasterRole;
+use fields::burst_bit;
+use fields::burst_of;
+use fields::consts::address::MANUFACTURER_ID_MASK;
+use fields::consts::address::SHORT_ADDRESS_MASK;
+use fields::manufacturer_of;
+use fields::master_bit;
+use fields::master_of;
+use fields::polling_of;
 use octets::decode_u24_be;
 use octets::encode_u24_be;
 use refusal::Refusal;
@@ -14,13 +18,7 @@ ghost use Prim.Native.Nat.{_≤_, _<_};
 ghost use lib.ListN.{length};
 ghost use Rattle.refusal.specs.Outcome.{ends, replyOf};
 ghost use Rattle.octets.specs.Put.{put};
-ghost use Rattle.types.specs.Address.{addressLength, masterOf, shortAddress, readAddress, isLong, readOf, decoded, masterBit, burstBit, firstByte, longBytes, addressWritten};
-ghost use Rattle.types.specs.Bit.{bit};
-
-pub enum MasterRole {
-    Primary,
-    Secondary,
-}
+ghost use Rattle.types.specs.Address.{addressLength, shortAddress, readAddress, isLong, readOf, decoded, firstByte, longBytes, addressWritten};
 
 pub enum Address {
     Short {
@@ -49,22 +47,6 @@ pub fn address_length(is_long: bool) -> u8
     if is_long { 5 } else { 1 }
 }
 
-fn master_of(first: u8) -> MasterRole
-    ensures { λ r. ⌜ r ≡ masterOf first ⌝ }
-{
-    if has_bit(first, PRIMARY_MASTER_BIT) {
-        MasterRole::Primary
-    } else {
-        MasterRole::Secondary
-    }
-}
-
-fn burst_of(first: u8) -> bool
-    ensures { λ r. ⌜ r ≡ bit 6 first ⌝ }
-{
-    has_bit(first, BURST_MODE_BIT)
-}
-
 fn short_address(first: u8) -> Address
     ensures { λ r. ⌜ r ≡ shortAddress first ⌝ }
 {
@@ -73,7 +55,7 @@ fn short_address(first: u8) -> Address
     Address::Short {
         master,
         burst,
-        poll_address: first & SHORT_ADDRESS_MASK,
+        poll_address: polling_of(first),
     }
 }
 
@@ -86,25 +68,10 @@ fn long_address(bytes: [u8; 5]) -> Address
     Address::Long {
         master,
         burst,
-        manufacturer_id: first & MANUFACTURER_ID_MASK,
+        manufacturer_id: manufacturer_of(first),
         device_type: bytes[1],
         device_id: decode_u24_be(bytes[2], bytes[3], bytes[4]),
     }
-}
-
-fn master_bit(master: MasterRole) -> u8
-    ensures { λ r. ⌜ r ≡ masterBit master ⌝ }
-{
-    match master {
-        MasterRole::Primary => PRIMARY_MASTER_BIT,
-        MasterRole::Secondary => 0,
-    }
-}
-
-fn burst_bit(burst: bool) -> u8
-    ensures { λ r. ⌜ r ≡ burstBit burst ⌝ }
-{
-    if burst { BURST_MODE_BIT } else { 0 }
 }
 
 fn first_byte(master: MasterRole, burst: bool, low: u8) -> u8

@@ -6,7 +6,7 @@ use lib.ListN.{length, take, drop, length-append, length-replicate}
 use Rattle.octets.specs.Check.{check}
 use Rattle.octets.specs.Put.{put}
 use Rattle.octets.proofs.Put.{length-put, put-put, part-put, put-wrote}
-use Rattle.types.specs.declared.delimiter.FrameType.{FrameType}
+use Rattle.fields.specs.declared.delimiter.FrameType.{FrameType}
 use Rattle.types.specs.declared.address.Address.{Address}
 use Rattle.types.specs.Address.{addressLength, isLong}
 use Rattle.types.proofs.Addresses.{address-length-le}

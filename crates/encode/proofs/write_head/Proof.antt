@@ -9,9 +9,9 @@ use borrow.Rule.Slice.PartMut.{midOf, putMid}
 use Rattle.refusal.specs.Outcome.{Reply, ends, wrote}
 use Rattle.octets.specs.Put.{put}
 use Rattle.octets.proofs.Put.{put-put, put-snoc, lent-put}
-use Rattle.types.specs.declared.delimiter.FrameType.{FrameType}
+use Rattle.fields.specs.declared.delimiter.FrameType.{FrameType}
 use Rattle.types.specs.declared.address.Address.{Address}
-use Rattle.types.specs.Delimiter.{delimiter}
+use Rattle.fields.specs.Delimiter.{delimiter}
 use Rattle.types.specs.Address.{addressLength, isLong, addressBytes, addressWritten}
 use Rattle.types.proofs.Addresses.{length-address, address-fits}
 use Rattle.line.specs.Layout.{preambles}
@@ -46,7 +46,7 @@ lent-address a l at {r} {part} h e =
     let room : length l - at ≤ length mid = omega (arith, length-take-le (length l - at) (drop at l) (omega (arith, length-drop at l))) in
     let f : ends r part ≡ wrote (addressBytes a) mid = e ∙ address-fits a mid (omega arith) in
     let g : part ≡ addressBytes a ++ drop (length (addressBytes a)) mid = cc in
-    lent-put l at (addressBytes a) (omega arith) g
+    lent-put l at (addressBytes a) (omega (arith, length-address a)) g
 
 write-preambles-requires : tie.Need-write-preambles-requires
 write-preambles-requires c κs = search needs

@@ -4,7 +4,7 @@ use mathlib.Core.Path.{_≡_, sym, _∙_}
 use lib.ListN.{length}
 use borrow.Author.Needs.{needs}
 use Rattle.octets.proofs.Put.{put-wrote}
-use Rattle.packed_string.specs.declared.Mode.the-variants.{Crate}
+use Rattle.text_group.specs.declared.Mode.the-variants.{Crate}
 use Rattle.packed_string.specs.Text.{unpacked}
 use Rattle.packed_string.proofs.Groups.{length-unpacked}
 use Rattle.packed_string.proofs.Calls.{crate-unpacks}

@@ -4,7 +4,7 @@ use mathlib.Core.Path.{sym, _∙_}
 use lib.ListN.{length}
 use borrow.Author.Needs.{needs}
 use Rattle.octets.proofs.Put.{put-wrote}
-use Rattle.packed_string.specs.declared.Mode.the-variants.{Standard}
+use Rattle.text_group.specs.declared.Mode.the-variants.{Standard}
 use Rattle.packed_string.specs.Text.{unpacked}
 use Rattle.packed_string.proofs.Groups.{length-unpacked}
 use Rattle.packed_string.proofs.Calls.{standard-unpacks-left-over, standard-unpacks-no-room, standard-unpacks}

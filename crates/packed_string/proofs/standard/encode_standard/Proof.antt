@@ -6,7 +6,7 @@ use lib.ListN.{length}
 use borrow.Author.Needs.{needs}
 use Rattle.refusal.specs.Outcome.{refuses, wrote}
 use Rattle.octets.proofs.Put.{put-wrote}
-use Rattle.packed_string.specs.declared.Mode.the-variants.{Standard}
+use Rattle.text_group.specs.declared.Mode.the-variants.{Standard}
 use Rattle.packed_string.specs.Text.{groups, packed, badPlace}
 use Rattle.packed_string.proofs.Groups.{length-packed}
 use Rattle.packed_string.proofs.Calls.{standard-packs-no-room, standard-packs-bad, standard-packs}

@@ -3,12 +3,11 @@ use Prim.Native.Nat.{ℕ}
 use mathlib.Core.Path.{ap₂, _∙_}
 use mathlib.Core.Bool.{Bool}
 use lib.ListN.{getD}
-use lib.Bits.{bitAnd, and-mask}
 use borrow.Author.Needs.{needs}
-use Rattle.types.specs.declared.address.MasterRole.{MasterRole}
+use Rattle.octets.specs.Bit.{bit}
+use Rattle.fields.specs.declared.first.MasterRole.{MasterRole}
+use Rattle.fields.specs.First.{masterOf}
 use Rattle.types.specs.declared.address.Address.the-variants.{Long}
-use Rattle.types.specs.Bit.{bit}
-use Rattle.types.specs.Address.{masterOf}
 use Rattle.types.proofs.address.long_address.Statement.{statement}
 use Rattle.types.proofs.address.long_address.Tie as tie
 
@@ -20,6 +19,9 @@ master-of-requires c κs = search needs
 
 burst-of-requires : tie.Need-burst-of-requires
 burst-of-requires c κs = search needs
+
+manufacturer-of-requires : tie.Need-manufacturer-of-requires
+manufacturer-of-requires c κs = search needs
 
 array-read-t11 : tie.Need-array-read-t11
 array-read-t11 c = search needs
@@ -38,10 +40,10 @@ decode-u24-be-requires c κs = search needs
 
 returns : tie.Need-returns
 returns c =
-    let bs = c .before .before .before .args .t1 in
+    let bs = c .before .before .before .before .args .t1 in
     let first = getD bs 0 0 in
-    ap₂ (λ (m : MasterRole) (b : Bool). Long m b (bitAnd first 63) (getD bs 1 0) (c .decode-u24-be .result)) (c .before .before .master-of .ensures) (c .before .burst-of .ensures)
-    ∙ ap₂ (λ (low n : ℕ). Long (masterOf first) (bit 6 first) low (getD bs 1 0) n) (and-mask first 6) (c .decode-u24-be .ensures)
+    ap₂ (λ (m : MasterRole) (b : Bool). Long m b (c .before .manufacturer-of .result) (getD bs 1 0) (c .decode-u24-be .result)) (c .before .before .before .master-of .ensures) (c .before .before .burst-of .ensures)
+    ∙ ap₂ (λ (low n : ℕ). Long (masterOf first) (bit 6 first) low (getD bs 1 0) n) (c .before .manufacturer-of .ensures) (c .decode-u24-be .ensures)
 
 pub long-address-spec : {M : Type 1} → statement M
 long-address-spec =
@@ -50,6 +52,7 @@ long-address-spec =
     array-read-first
     master-of-requires
     burst-of-requires
+    manufacturer-of-requires
     array-read-t11
     array-read-decode-u24-be
     array-read-decode-u24-be-2

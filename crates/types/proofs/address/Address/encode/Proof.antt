@@ -1,4 +1,4 @@
-use Prim.Native.Nat.{ℕ, _%_, _≤_}
+use Prim.Native.Nat.{ℕ, _%_, _≤_, _<_}
 use native.Mathlib.Omega.{arith}
 use mathlib.Core.Path.{_≡_, refl, sym, ap, _∙_}
 use mathlib.Core.Bool.{Bool}
@@ -8,7 +8,7 @@ use lib.ListN.{length, set}
 use Rattle.refusal.specs.Outcome.{done, ends}
 use Rattle.octets.specs.Put.{put}
 use Rattle.octets.proofs.Put.{set-is-put, put-wrote}
-use Rattle.types.specs.declared.address.MasterRole.{MasterRole}
+use Rattle.fields.specs.declared.first.MasterRole.{MasterRole}
 use Rattle.types.specs.declared.address.Address.the-variants.{Short, Long}
 use Rattle.types.specs.Address.{firstByte, longBytes, addressBytes, addressWritten}
 use Rattle.types.proofs.Addresses.{address-fits, address-refused}
@@ -33,6 +33,10 @@ long-stored m b f t n buffer {v} {after} e w h =
     put-wrote buffer (addressBytes (Long m b f t n)) (w ∙ ap (λ (x : ℕ). put buffer 0 (longBytes x t n)) g) refl
     ∙ sym (address-fits (Long m b f t n) buffer h)
 
+-- what a mask below 64 leaves is below 64
+masked-low : (a mask : ℕ) → mask < 64 → bitAnd a mask < 64
+masked-low a mask h = omega (arith, and-le-r a mask)
+
 enum-known-self : tie.Need-enum-known-self
 enum-known-self c = search needs
 
@@ -40,7 +44,7 @@ returns : tie.Need-returns
 returns c = let a = c .before .before .before .before .before .args in sym (address-refused (a .self) (a .buf .now) (rw (c .before .before .self .given .1) (c .if1 .taken)))
 
 first-byte-requires : tie.Need-first-byte-requires
-first-byte-requires c κs = omega (arith, and-le-r (c .before .before .self .given .0 .1 .1 .0) 15)
+first-byte-requires c κs = search (masked-low, needs)
 
 slice-write-buf : tie.Need-slice-write-buf
 slice-write-buf c = search needs
@@ -52,7 +56,7 @@ returns-2 : tie.Need-returns-2
 returns-2 c = let a = c .before .before .before .before .before .args in sym (address-refused (a .self) (a .buf .now) (rw (c .before .before .self2 .given .1) (c .if2 .taken)))
 
 first-byte-requires-2 : tie.Need-first-byte-requires-2
-first-byte-requires-2 c κs = omega (arith, and-le-r (c .before .before .self2 .given .0 .1 .1 .0) 63)
+first-byte-requires-2 c κs = search (masked-low, needs)
 
 write-long-requires : tie.Need-write-long-requires
 write-long-requires c κs = search needs

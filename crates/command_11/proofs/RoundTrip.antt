@@ -1,0 +1,31 @@
+-- A tag that was packed reads back, and so does one that a request wrote: each character as `readBack` says, and one of 0x20 to 0x5F as
+-- itself.
+use Prim.Native.Nat.{ℕ}
+use native.Mathlib.Omega.{arith}
+use mathlib.Core.Path.{_≡_, ap, _∙_}
+use mathlib.Core.List.{List, map}
+use lib.ListN.{length, take, drop}
+use lib.Seq.{take-at}
+use Rattle.refusal.specs.Outcome.{done, ends}
+use Rattle.text_group.specs.declared.Mode.{Mode}
+use Rattle.packed_string.specs.Text.{readBack, Plain}
+use Rattle.text_in_mode.specs.Modes.{packedText, unpackedText}
+use Rattle.text_in_mode.proofs.Texts.{length-packed-text, fields-done}
+use Rattle.text_in_mode.proofs.RoundTrip.{whole-back, whole-plain-back}
+use Rattle.command_11.specs.Tag.{tagRequested}
+
+module _ (mode : Mode) (tag : List ℕ) (t : length tag ≡ 8) where
+  pub tag-back : unpackedText mode (packedText mode tag) ≡ map (readBack mode) tag
+  tag-back = whole-back mode tag (omega arith)
+
+  pub plain-tag-back : Plain tag → unpackedText mode (packedText mode tag) ≡ tag
+  plain-tag-back = whole-plain-back mode tag (omega arith)
+
+  pub request-back : (buffer : List ℕ) {values left : List ℕ} → tagRequested mode tag buffer ≡ ends (done values) left → unpackedText mode (take 6 left) ≡ map (readBack mode) tag
+  unfolding tagRequested
+  request-back buffer e =
+      let p = packedText mode tag in
+      let six : length p ≡ 6 = omega (arith, length-packed-text mode tag) in
+      ap (λ (l : List ℕ). unpackedText mode (take 6 l)) (fields-done mode 6 _ p buffer e)
+      ∙ ap (unpackedText mode) (take-at p (drop (length p) buffer) 6 six)
+      ∙ tag-back

@@ -1,0 +1,50 @@
+-- Each mode by its own call.
+use mathlib.Core.Path.{sym, ap, _∙_}
+use borrow.Author.Needs.{needs}
+use Rattle.text_group.specs.declared.Mode.{Mode}
+use Rattle.text_in_mode.specs.Modes.{unpackedIn}
+use Rattle.text_in_mode.proofs.decode_in.Statement.{statement}
+use Rattle.text_in_mode.proofs.decode_in.Tie as tie
+
+enum-told : tie.Need-enum-told
+enum-told c = search needs
+
+decode-packed-requires : tie.Need-decode-packed-requires
+decode-packed-requires c κs = search needs
+
+enum-told-2 : tie.Need-enum-told-2
+enum-told-2 c = search needs
+
+decode-standard-requires : tie.Need-decode-standard-requires
+decode-standard-requires c κs = search needs
+
+same-length : tie.Need-same-length
+same-length c = search needs
+
+returns : tie.Need-returns
+unfolding unpackedIn
+returns c =
+    let a = c .before .before .before .before .before .before .before .before .args in
+    c .before .before .decode-packed .ensures ∙ sym (ap (λ (m : Mode). unpackedIn m (a .src .now) (a .dst .now)) (c .before .before .before .before .enum-told .given .1))
+
+same-length-2 : tie.Need-same-length-2
+same-length-2 c = search needs
+
+returns-2 : tie.Need-returns-2
+unfolding unpackedIn
+returns-2 c =
+    let a = c .before .before .before .before .before .before .before .before .args in
+    c .before .before .decode-standard .ensures ∙ sym (ap (λ (m : Mode). unpackedIn m (a .src .now) (a .dst .now)) (c .before .before .before .before .enum-told2 .given .1))
+
+pub decode-in-spec : {M : Type 1} → statement M
+decode-in-spec =
+    tie.close
+    (tie.spec
+    enum-told
+    decode-packed-requires
+    enum-told-2
+    decode-standard-requires
+    same-length
+    returns
+    same-length-2
+    returns-2)
