@@ -8,7 +8,8 @@ use lib.ListN.{length, take, drop}
 use lib.Seq.{take-at}
 use Rattle.refusal.specs.Outcome.{done, ends}
 use Rattle.text_group.specs.declared.Mode.{Mode}
-use Rattle.packed_string.specs.Text.{readBack, Plain}
+use Rattle.bad_character.specs.Plain.{Plain}
+use Rattle.packed_string.specs.Text.{readBack}
 use Rattle.text_in_mode.specs.Modes.{packedText, unpackedText}
 use Rattle.text_in_mode.proofs.Texts.{length-packed-text, fields-done}
 use Rattle.text_in_mode.proofs.RoundTrip.{whole-back, whole-plain-back}

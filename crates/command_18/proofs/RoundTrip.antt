@@ -7,7 +7,8 @@ use lib.ListN.{length, getD, take, drop, length-append}
 use lib.Seq.{take-at, drop-at, getD-append-add}
 use Rattle.refusal.specs.Outcome.{done, ends}
 use Rattle.text_group.specs.declared.Mode.{Mode}
-use Rattle.packed_string.specs.Text.{readBack, Plain}
+use Rattle.bad_character.specs.Plain.{Plain}
+use Rattle.packed_string.specs.Text.{readBack}
 use Rattle.packed_string.proofs.RoundTrip.{plain-back}
 use Rattle.payload.specs.Payload.{carries}
 use Rattle.text_in_mode.specs.Modes.{packedText, unpackedText}

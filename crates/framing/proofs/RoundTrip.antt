@@ -20,10 +20,10 @@ use Rattle.line.proofs.Layouts.{length-frame}
 use Rattle.line.proofs.Bytes.{bytes-append, bytes-replicate}
 use Rattle.encode.specs.Encode.{layout, total}
 use Rattle.encode.proofs.Layouts.{length-layout, encoded-whole}
-use Rattle.framing.specs.Frames.{frameOf, heardOf}
+use Rattle.machine.specs.Frames.{frameOf, heardOf}
 use Rattle.framing.specs.RoundTrip.{Handed, written, IsDone, heardBack, HeardBehind, Lacks, NotFound}
-use Rattle.framing.specs.declared.frame.Frame.{Frame}
-use Rattle.framing.specs.declared.frame.Heard.{Heard}
+use Rattle.machine.specs.declared.frame.Frame.{Frame}
+use Rattle.machine.specs.declared.frame.Heard.{Heard}
 use Rattle.framing.proofs.Demand.{answered}
 
 -- pieces joined

@@ -13,13 +13,14 @@ use Rattle.line.specs.Pieces.{Piece, Bytes, joined}
 use Rattle.line.specs.Events.{silence, saidBy}
 use Rattle.line.specs.Runs.{says}
 use Rattle.encode.specs.Encode.{wireOf, encoded}
-use Rattle.framing.specs.Room.{dataRoom}
-use Rattle.framing.specs.Frames.{padded, frameOf, heardOf}
+use Rattle.machine.specs.Room.{dataRoom}
+use Rattle.machine.specs.Frames.{padded, frameOf, heardOf}
 use Rattle.framing.specs.Feed.{fresh}
-use Rattle.framing.specs.Demand.{hears, framesHeard}
-use Rattle.framing.specs.declared.frame.Frame.{Frame}
-use Rattle.framing.specs.declared.frame.Answer.the-variants.{Found}
-use Rattle.framing.specs.declared.frame.Heard.{Heard}
+use Rattle.machine.specs.Demand.{framesHeard}
+use Rattle.framing.specs.Demand.{hears}
+use Rattle.machine.specs.declared.frame.Frame.{Frame}
+use Rattle.machine.specs.declared.frame.Answer.the-variants.{Found}
+use Rattle.machine.specs.declared.frame.Heard.{Heard}
 
 -- what a caller hands to the encoder, each number that reaches the line in the range of its type
 pub record Handed : Type 0 where

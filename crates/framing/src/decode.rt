@@ -1,17 +1,18 @@
 // The decoder by value: a byte takes one decoder and gives the next.
-use crate::frame::Answer;
-use crate::frame::Frame;
-use crate::frame::Heard;
 use crate::frame::frame_of;
-use crate::reachable::is_reachable_at;
-use crate::state::ROOM;
-use crate::state::State;
-use crate::step::Ended;
-use crate::step::Moved;
-use crate::step::step;
+use machine::Answer;
+use machine::Ended;
+use machine::Frame;
+use machine::Heard;
+use machine::Moved;
+use machine::ROOM;
+use machine::State;
 use refusal::Refusal;
+use step::is_reachable;
+use step::step;
 ghost use mathlib.Core.Path.{_≡_};
-ghost use Rattle.framing.specs.Feed.{fresh, reachable, frameless, settled, fedOf, fed};
+ghost use Rattle.machine.specs.Feed.{settled};
+ghost use Rattle.framing.specs.Feed.{fresh, reachable, frameless, renamed, fedOf, fed};
 
 // The bytes are those of the address and of the data, zero where nothing was read.
 pub struct Decoder {
@@ -38,7 +39,7 @@ fn frameless(answer: Answer, next: Decoder) -> Fed
 }
 
 fn ended_with(moved: Moved, bytes: [u8; ROOM]) -> Fed
-    ensures { λ r. ⌜ r ≡ fedOf (settled moved bytes) ⌝ }
+    ensures { λ r. ⌜ r ≡ fedOf (renamed (settled moved bytes)) ⌝ }
 {
     let state = moved.state;
     let ended = moved.ended;
@@ -82,7 +83,7 @@ impl Decoder {
     {
         let state = self.state;
         let bytes = self.bytes;
-        is_reachable_at(state, &bytes)
+        is_reachable(state, &bytes)
     }
 
     // Takes one byte. A decoder that no run of bytes leads to is refused with 8 and comes back as it
@@ -92,7 +93,7 @@ impl Decoder {
     {
         let state = self.state;
         let mut bytes = self.bytes;
-        if is_reachable_at(state, &bytes) {
+        if is_reachable(state, &bytes) {
             let moved = step(state, &mut bytes, byte);
             return ended_with(moved, bytes);
         }

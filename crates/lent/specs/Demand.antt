@@ -5,7 +5,7 @@ use mathlib.Core.List.{List, map}
 use lib.ListN.{getD}
 use Rattle.line.specs.Pieces.{Piece, Cut}
 use Rattle.line.specs.Events.{verdict, gather, loudIn}
-use Rattle.framing.specs.Frames.{heardOf}
+use Rattle.machine.specs.Frames.{heardOf}
 use Rattle.lent.specs.Listen.{quiet, listened}
 
 -- what is heard of a run, silence left out, is what the pieces of its one cut say, in order: each number of it, and silence behind the

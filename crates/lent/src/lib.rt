@@ -6,7 +6,7 @@ use framing::Heard;
 use keep::keep;
 use keep::waiting;
 ghost use mathlib.Core.Path.{_≡_};
-ghost use Rattle.framing.specs.Frames.{heardOf};
+ghost use Rattle.machine.specs.Frames.{heardOf};
 ghost use Rattle.framing.specs.Feed.{fresh, feeding};
 ghost use Rattle.lent.specs.Listen.{listened};
 

@@ -1,43 +1,16 @@
--- What each call comes to, case by case: callers cite these laws and not the definitions' text.
-use Prim.Native.Nat.{ℕ, _/_, _%_, _≤_, _<_, min}
+-- What each call comes to, for the number of groups that the caller knows of: callers cite these laws and not the definitions' text.
+use Prim.Native.Nat.{ℕ}
 use mathlib.Core.Path.{_≡_, ap}
-use mathlib.Core.List.{List, [], _∷_}
-use lib.ListN.{length}
-use borrow.Author.Tests.{lt-ltb, le-ltb, eq-eqb, ne-eqb}
-use Rattle.refusal.specs.Outcome.{wrote, refuses}
-use Rattle.text_group.specs.declared.Mode.the-variants.{Crate, Standard}
-use Rattle.packed_string.specs.Text.{groups, packed, unpacked, badPlace, cratePacked, crateUnpacked, standardPacked, standardUnpacked}
+use mathlib.Core.List.{List}
+use Rattle.refusal.specs.Outcome.{wrote}
+use Rattle.text_group.specs.declared.Mode.the-variants.{Crate}
+use Rattle.text_groups.specs.Groups.{packed, unpacked, packedCount, unpackedCount}
+use Rattle.packed_string.specs.Text.{cratePacked, crateUnpacked}
 
-module _ (text buffer : List ℕ) where
-  pub crate-packs : {n : ℕ} → min (groups (length text)) (length buffer / 3) ≡ n → cratePacked text buffer ≡ wrote (packed Crate text n) buffer
-  unfolding cratePacked
-  crate-packs e = ap (λ (k : ℕ). wrote (packed Crate text k) buffer) e
+pub crate-packs : (text buffer : List ℕ) {n : ℕ} → packedCount text buffer ≡ n → cratePacked text buffer ≡ wrote (packed Crate text n) buffer
+unfolding cratePacked
+crate-packs text buffer e = ap (λ (k : ℕ). wrote (packed Crate text k) buffer) e
 
-  pub standard-packs-no-room : length buffer / 3 < groups (length text) → standardPacked text buffer ≡ refuses 2 [] buffer
-  unfolding standardPacked
-  standard-packs-no-room h = rw (lt-ltb (length buffer / 3) (groups (length text)) h)
-
-  pub standard-packs-bad : groups (length text) ≤ length buffer / 3 → badPlace text < length text → standardPacked text buffer ≡ refuses 7 (badPlace text ∷ []) buffer
-  unfolding standardPacked
-  standard-packs-bad h k = rw (le-ltb (length buffer / 3) (groups (length text)) h, lt-ltb (badPlace text) (length text) k)
-
-  pub standard-packs : groups (length text) ≤ length buffer / 3 → length text ≤ badPlace text → standardPacked text buffer ≡ wrote (packed Standard text (groups (length text))) buffer
-  unfolding standardPacked
-  standard-packs h k = rw (le-ltb (length buffer / 3) (groups (length text)) h, le-ltb (badPlace text) (length text) k)
-
-module _ (bytes buffer : List ℕ) where
-  pub crate-unpacks : {n : ℕ} → min (length bytes / 3) (length buffer / 4) ≡ n → crateUnpacked bytes buffer ≡ wrote (unpacked Crate bytes n) buffer
-  unfolding crateUnpacked
-  crate-unpacks e = ap (λ (k : ℕ). wrote (unpacked Crate bytes k) buffer) e
-
-  pub standard-unpacks-left-over : (length bytes % 3 ≡ 0 → ⊥) → standardUnpacked bytes buffer ≡ refuses 3 [] buffer
-  unfolding standardUnpacked
-  standard-unpacks-left-over h = rw (ne-eqb (length bytes % 3) 0 h)
-
-  pub standard-unpacks-no-room : length bytes % 3 ≡ 0 → length buffer / 4 < length bytes / 3 → standardUnpacked bytes buffer ≡ refuses 2 [] buffer
-  unfolding standardUnpacked
-  standard-unpacks-no-room e h = rw (eq-eqb (length bytes % 3) 0 e, lt-ltb (length buffer / 4) (length bytes / 3) h)
-
-  pub standard-unpacks : length bytes % 3 ≡ 0 → length bytes / 3 ≤ length buffer / 4 → standardUnpacked bytes buffer ≡ wrote (unpacked Standard bytes (length bytes / 3)) buffer
-  unfolding standardUnpacked
-  standard-unpacks e h = rw (eq-eqb (length bytes % 3) 0 e, le-ltb (length buffer / 4) (length bytes / 3) h)
+pub crate-unpacks : (bytes buffer : List ℕ) {n : ℕ} → unpackedCount bytes buffer ≡ n → crateUnpacked bytes buffer ≡ wrote (unpacked Crate bytes n) buffer
+unfolding crateUnpacked
+crate-unpacks bytes buffer e = ap (λ (k : ℕ). wrote (unpacked Crate bytes k) buffer) e

@@ -17,26 +17,14 @@ use Rattle.text_group.specs.declared.Mode.{Mode}
 use Rattle.text_group.specs.declared.Mode.the-variants.{Crate, Standard}
 use Rattle.text_group.specs.Group.{codeOf, charOf, packGroup, unpackGroup}
 use Rattle.text_group.proofs.Group.{code-below, group-back}
-use Rattle.packed_string.specs.Text.{
-  charsAt,
-  bytesAt,
-  packedGroup,
-  unpackedGroup,
-  packed,
-  unpacked,
-  groups,
-  cratePacked,
-  crateUnpacked,
-  standardPacked,
-  standardUnpacked,
-  readBack,
-  filled,
-  Coded,
-  Plain,
-}
-use Rattle.packed_string.proofs.Groups.{length-packed}
-use Rattle.packed_string.proofs.BadPlace.{plain-place}
-use Rattle.packed_string.proofs.Calls.{crate-packs, crate-unpacks, standard-packs, standard-unpacks}
+use Rattle.text_groups.specs.Groups.{charsAt, bytesAt, packedGroup, unpackedGroup, packed, unpacked, groups}
+use Rattle.text_groups.proofs.Groups.{length-packed}
+use Rattle.bad_character.specs.Plain.{Coded, Plain}
+use Rattle.bad_character.proofs.BadPlace.{plain-place}
+use Rattle.standard_text.specs.Standard.{standardPacked, standardUnpacked}
+use Rattle.standard_text.proofs.Calls.{standard-packs, standard-unpacks}
+use Rattle.packed_string.specs.Text.{cratePacked, crateUnpacked, readBack, filled}
+use Rattle.packed_string.proofs.Calls.{crate-packs, crate-unpacks}
 
 -- the bytes of a group, where g groups stand before them
 bytes-behind : (p : List ℕ) (g : ℕ) (x y z : ℕ) (rest : List ℕ) → length p ≡ g * 3 → bytesAt (p ++ (x ∷ y ∷ z ∷ rest)) g ≡ x ∷ y ∷ z ∷ []

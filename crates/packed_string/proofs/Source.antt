@@ -20,9 +20,10 @@ use Rattle.octets.proofs.Parts.{length-parts, parts-start, parts-turn}
 use Rattle.text_group.specs.declared.Mode.the-variants.{Crate}
 use Rattle.text_group.specs.Group.{codeOf, charOf, packGroup, unpackGroup}
 use Rattle.text_group.proofs.Group.{code-below, pack-group, unpack-group}
-use Rattle.packed_string.specs.Text.{packedGroup, unpackedGroup, groups, cratePacked, crateUnpacked}
+use Rattle.text_groups.specs.Groups.{packedGroup, unpackedGroup, groups}
+use Rattle.text_groups.proofs.Groups.{packed-sized, unpacked-sized}
+use Rattle.packed_string.specs.Text.{cratePacked, crateUnpacked}
 use Rattle.packed_string.specs.Source.{divCeil, groupLoop, sourceCode, storeBytes, encodeTurn, sourceEncoded, storeChars, decodeGroup, decodeTurn, sourceDecoded}
-use Rattle.packed_string.proofs.Groups.{packed-sized, unpacked-sized}
 use Rattle.packed_string.proofs.Calls.{crate-packs, crate-unpacks}
 
 -- The loop, for groups of any size, of which there are n: it writes as many as there are, or as fit.

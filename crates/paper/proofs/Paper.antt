@@ -9,19 +9,22 @@ use lib.ListN.{replicate}
 use borrow.Author.Tests.{ltb-true}
 use Rattle.octets.specs.Put.{firstParts}
 use Rattle.text_group.specs.Group.{packGroup, unpackGroup}
-use Rattle.packed_string.specs.Text.{badPlace, cratePacked, crateUnpacked, standardPacked}
+use Rattle.bad_character.specs.Plain.{badPlace}
+use Rattle.standard_text.specs.Standard.{standardPacked}
+use Rattle.packed_string.specs.Text.{cratePacked, crateUnpacked}
 use Rattle.fields.specs.Delimiter.{delimiterOf}
 use Rattle.types.specs.Address.{addressBytes}
 use Rattle.line.specs.Pieces.{Bytes}
 use Rattle.line.specs.Events.{silence}
 use Rattle.line.specs.Runs.{says, ends}
-use Rattle.line.proofs.Scan.{hunt, scanWithin, scan, told}
+use Rattle.line.proofs.Scan.{Scan, hunt, scanWithin, scan, told}
 use Rattle.encode.specs.Encode.{encoded}
-use Rattle.framing.specs.Frames.{heardOf}
-use Rattle.framing.proofs.Zeros.{and-first, and-second}
-use Rattle.framing.proofs.Image.{real}
+use Rattle.machine.specs.Frames.{heardOf}
+use Rattle.machine.proofs.Zeros.{and-first, and-second}
+use Rattle.machine.proofs.Image.{real}
+use Rattle.machine.specs.declared.frame.Heard.{Heard}
+use Rattle.framing.specs.Feed.{decoderOf}
 use Rattle.framing.proofs.Demand.{heard-scanned, ends-scanned}
-use Rattle.framing.specs.declared.frame.Heard.{Heard}
 use Rattle.framing.specs.declared.decode.Decoder.{Decoder}
 use Rattle.paper.specs.Paper.{
   Shown,
@@ -53,7 +56,7 @@ reads : (r : Reading) → allSmall (r .run) ≡ true → map heardOf (map told (
     → reading r .comes ≡ reading r .said
 reads r k h e =
     let s = small (r .run) k in
-    ap₂ (λ (hs : List Heard) (d : Decoder). heard hs (d .state)) (heard-scanned (r .run) s ∙ h) (ends-scanned (r .run) s ∙ ap real e)
+    ap₂ (λ (hs : List Heard) (d : Decoder). heard hs (d .state)) (heard-scanned (r .run) s ∙ h) (ends-scanned (r .run) s ∙ ap (λ (c : Scan). decoderOf (real c)) e)
 
 both : (x y : Shown) (xs ys : List Shown) → x ≡ y → xs ≡ ys → x ∷ xs ≡ y ∷ ys
 both x y xs ys e es = ap₂ (λ (z : Shown) (zs : List Shown). z ∷ zs) e es

@@ -1,11 +1,11 @@
--- Document 01, 'Examples': those marked (P), as one list that grows with the parts that are built; here, packed text, what a decoder
--- reads and what the encoder writes. Each has what the definitions make of it and what document 01 says.
+-- Document 01, 'Examples': those marked (P), as one list: packed text, what a decoder reads and what the encoder writes. Each has what the definitions make of it and what document 01 says.
 use Prim.Native.Nat.{ℕ}
 use mathlib.Core.Bool.{false}
 use mathlib.Core.List.{List, [], _∷_, _++_}
 use lib.ListN.{replicate}
 use Rattle.refusal.specs.Outcome.{Outcome, ends, done, refused}
-use Rattle.packed_string.specs.Text.{cratePacked, crateUnpacked, standardPacked}
+use Rattle.standard_text.specs.Standard.{standardPacked}
+use Rattle.packed_string.specs.Text.{cratePacked, crateUnpacked}
 use Rattle.fields.specs.declared.delimiter.FrameType.the-variants.{Request}
 use Rattle.fields.specs.declared.first.MasterRole.the-variants.{Primary}
 use Rattle.types.specs.declared.address.Address.{Address}
@@ -14,13 +14,13 @@ use Rattle.line.specs.Layout.{preambles}
 use Rattle.line.specs.Events.{silence, refusal}
 use Rattle.line.specs.Runs as runs
 use Rattle.encode.specs.Encode.{encoded}
-use Rattle.framing.specs.Frames.{padded, heardOf}
+use Rattle.machine.specs.Frames.{padded, heardOf}
 use Rattle.framing.specs.Feed.{fresh}
 use Rattle.framing.specs.Demand.{hears}
-use Rattle.framing.specs.declared.state.State.{State}
-use Rattle.framing.specs.declared.state.State.the-variants.{Hunting}
-use Rattle.framing.specs.declared.frame.Heard.{Heard}
-use Rattle.framing.specs.declared.frame.Answer.the-variants.{Found}
+use Rattle.machine.specs.declared.state.State.{State}
+use Rattle.machine.specs.declared.state.State.the-variants.{Hunting}
+use Rattle.machine.specs.declared.frame.Heard.{Heard}
+use Rattle.machine.specs.declared.frame.Answer.the-variants.{Found}
 
 -- What an example shows: what a call comes to; or what is heard at each byte of a run, and where the decoder then stands.
 pub data Shown : Type 0 where

@@ -5,7 +5,9 @@ use mathlib.Core.Path.{_≡_, ap, _∙_}
 use mathlib.Core.List.{List, _++_, map, append-nil}
 use lib.ListN.{length, replicate}
 use Rattle.text_group.specs.declared.Mode.{Mode}
-use Rattle.packed_string.specs.Text.{groups, unpacked, readBack, Plain}
+use Rattle.text_groups.specs.Groups.{groups, unpacked}
+use Rattle.bad_character.specs.Plain.{Plain}
+use Rattle.packed_string.specs.Text.{readBack}
 use Rattle.packed_string.proofs.RoundTrip.{text-back, plain-back}
 use Rattle.text_in_mode.specs.Modes.{packedText, unpackedText}
 use Rattle.text_in_mode.proofs.Texts.{length-packed-text}

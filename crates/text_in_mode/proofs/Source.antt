@@ -14,7 +14,7 @@ use Rattle.octets.specs.Put.{put}
 use Rattle.octets.specs.Source.{Run, comes, afterCall, lentTo, Given, filledBy}
 use Rattle.octets.proofs.Put.{lent-part}
 use Rattle.text_group.specs.declared.Mode.the-variants.{Crate}
-use Rattle.packed_string.specs.Text.{groups}
+use Rattle.text_groups.specs.Groups.{groups}
 use Rattle.packed_string.specs.Source.{sourceEncoded, sourceDecoded}
 use Rattle.packed_string.proofs.Calls.{crate-packs}
 use Rattle.packed_string.proofs.Source.{encode-is-source, decode-is-source}

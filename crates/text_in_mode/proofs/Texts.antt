@@ -15,10 +15,13 @@ use Rattle.octets.specs.Put.{put}
 use Rattle.octets.proofs.Put.{lent-part}
 use Rattle.text_group.specs.declared.Mode.{Mode}
 use Rattle.text_group.specs.declared.Mode.the-variants.{Crate, Standard}
-use Rattle.packed_string.specs.Text.{groups, badPlace, standardPacked}
-use Rattle.packed_string.proofs.Groups.{length-packed, length-unpacked}
-use Rattle.packed_string.proofs.BadPlace.{bad-append-first, bad-append-second, place-plain}
-use Rattle.packed_string.proofs.Calls.{crate-packs, crate-unpacks, standard-packs-bad, standard-packs, standard-unpacks}
+use Rattle.text_groups.specs.Groups.{groups}
+use Rattle.text_groups.proofs.Groups.{length-packed, length-unpacked}
+use Rattle.bad_character.specs.Plain.{badPlace}
+use Rattle.bad_character.proofs.BadPlace.{bad-append-first, bad-append-second, place-plain}
+use Rattle.standard_text.specs.Standard.{standardPacked}
+use Rattle.standard_text.proofs.Calls.{standard-packs-bad, standard-packs, standard-unpacks}
+use Rattle.packed_string.proofs.Calls.{crate-packs, crate-unpacks}
 use Rattle.text_in_mode.specs.Modes.{packedText, unpackedText, packedIn, unpackedIn, badIn, fieldsWritten}
 
 pub length-packed-text : (mode : Mode) (text : List ℕ) → length (packedText mode text) ≡ groups (length text) * 3

@@ -7,7 +7,10 @@ use lib.Dec.{ltb}
 use Rattle.refusal.specs.Outcome.{Outcome, wrote, refuses}
 use Rattle.text_group.specs.declared.Mode.{Mode}
 use Rattle.text_group.specs.declared.Mode.the-variants.{Crate, Standard}
-use Rattle.packed_string.specs.Text.{groups, packed, unpacked, badPlace, cratePacked, crateUnpacked, standardPacked, standardUnpacked}
+use Rattle.text_groups.specs.Groups.{groups, packed, unpacked}
+use Rattle.bad_character.specs.Plain.{badPlace}
+use Rattle.standard_text.specs.Standard.{standardPacked, standardUnpacked}
+use Rattle.packed_string.specs.Text.{cratePacked, crateUnpacked}
 
 -- all groups of a text, packed, and all whole groups of some bytes, unpacked
 abbrev pub packedText : Mode → List ℕ → List ℕ

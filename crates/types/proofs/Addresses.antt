@@ -1,17 +1,21 @@
 -- Addresses written: how many bytes, that they are bytes, and that an address comes back from them exactly if it is within its limits.
-use Prim.Native.Nat.{ℕ, _+_, _/_, _%_, _^_, _≤_, _<_}
+use Prim.Native.Nat.{ℕ, _+_, _-_, _/_, _%_, _^_, _≤_, _<_}
 use native.Mathlib.Omega.{arith}
 use native.Mathlib.Nat.{mod-eq-of-lt}
 use mathlib.Core.Path.{_≡_, refl, sym, ap, _∙_}
 use mathlib.Core.Bool.{Bool, true, false, cond}
-use mathlib.Core.List.{List, [], _++_, append-nil}
+use mathlib.Core.List.{List, [], _∷_, _++_, append-nil}
 use lib.Dec.{lit<, lit≤}
-use lib.ListN.{length, length-append}
+use lib.ListN.{length, getD, take, drop, length-append, length-drop}
+use lib.Seq.{getD-take, length-take-le}
 use borrow.Author.Tests.{eq-eqb, ne-eqb, lt-ltb, le-ltb}
-use Rattle.refusal.specs.Outcome.{wrote, refuses}
+use borrow.Rule.Slice.PartMut.{midOf, putMid}
+use Rattle.refusal.specs.Outcome.{Reply, ends, wrote, refuses}
 use Rattle.octets.specs.Bit.{bit}
 use Rattle.octets.specs.Digits.{Below}
+use Rattle.octets.specs.Put.{put}
 use Rattle.octets.proofs.Digits.{from-digits, digits-below}
+use Rattle.octets.proofs.Put.{lent-put}
 use Rattle.fields.specs.declared.first.MasterRole.{MasterRole}
 use Rattle.fields.specs.declared.first.MasterRole.the-variants.{Primary, Secondary}
 use Rattle.fields.specs.First.{masterOf, masterBit, burstBit}
@@ -57,6 +61,16 @@ pub length-address : (a : Address) → length (addressBytes a) ≡ addressLength
 unfolding addressBytes
 length-address (Short m b p) = refl
 length-address (Long m b f t n) = refl
+
+-- the part of a buffer from a place on, lent to the writer of an address that fits there
+pub lent-address : (a : Address) (l : List ℕ) (at : ℕ) {r : Reply} {part : List ℕ} → at + addressLength (isLong a) ≤ length l → ends r part ≡ addressWritten a (midOf at (length l - at) l)
+    → putMid at (length l - at) l part ≡ put l at (addressBytes a)
+lent-address a l at {r} {part} h e =
+    let mid = midOf at (length l - at) l in
+    let room : length l - at ≤ length mid = omega (arith, length-take-le (length l - at) (drop at l) (omega (arith, length-drop at l))) in
+    let f : ends r part ≡ wrote (addressBytes a) mid = e ∙ address-fits a mid (omega arith) in
+    let g : part ≡ addressBytes a ++ drop (length (addressBytes a)) mid = cc in
+    lent-put l at (addressBytes a) (omega (arith, length-address a)) g
 
 -- the first byte, read
 module _ (low : ℕ) (small : low < 64) where
@@ -127,3 +141,18 @@ module _ (a : Address) (rest : List ℕ) where
 -- the same of the bytes alone
 pub address-back : (a : Address) → Limited a → readAddress (isLong a) (addressBytes a) ≡ a
 address-back a h = ap (readAddress (isLong a)) (sym (append-nil (addressBytes a))) ∙ back a [] ∙ kept-limited a h
+
+-- reading looks at the first byte, or at all five
+pub read-taken : (long : Bool) (bs : List ℕ) → readAddress long bs ≡ readAddress long (take (addressLength long) bs)
+read-taken false bs = rw (getD-take 1 bs 0 0 (omega arith))
+read-taken true bs =
+    rw (getD-take 5 bs 0 0 (omega arith), getD-take 5 bs 1 0 (omega arith), getD-take 5 bs 2 0 (omega arith), getD-take 5 bs 3 0 (omega arith), getD-take 5 bs 4 0 (omega arith))
+
+-- so five bytes that were taken out one by one will do
+pub address-taken : (long : Bool) (bs : List ℕ) → readAddress long (getD bs 0 0 ∷ getD bs 1 0 ∷ getD bs 2 0 ∷ getD bs 3 0 ∷ getD bs 4 0 ∷ []) ≡ readAddress long (take (addressLength long) bs)
+address-taken false bs = read-taken false bs
+address-taken true bs = read-taken true bs
+
+pub long-read : (long : Bool) (bs : List ℕ) → isLong (readAddress long bs) ≡ long
+long-read false bs = refl
+long-read true bs = refl

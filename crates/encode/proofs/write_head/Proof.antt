@@ -1,19 +1,16 @@
 -- The part of the buffer that is lent to the address's writer comes back with the address at its front.
-use Prim.Native.Nat.{ℕ, _+_, _-_, _≤_}
+use Prim.Native.Nat.{ℕ, _+_, _≤_}
 use native.Mathlib.Omega.{arith}
 use mathlib.Core.Path.{_≡_, ap, _∙_}
 use mathlib.Core.List.{List, [], _∷_, _++_, append-assoc}
-use lib.ListN.{length, set, drop, length-append, length-set, length-drop, length-replicate}
-use lib.Seq.{length-take-le}
-use borrow.Rule.Slice.PartMut.{midOf, putMid}
-use Rattle.refusal.specs.Outcome.{Reply, ends, wrote}
+use lib.ListN.{length, set, length-append, length-set, length-replicate}
 use Rattle.octets.specs.Put.{put}
-use Rattle.octets.proofs.Put.{put-put, put-snoc, lent-put}
+use Rattle.octets.proofs.Put.{put-put, put-snoc}
 use Rattle.fields.specs.declared.delimiter.FrameType.{FrameType}
 use Rattle.types.specs.declared.address.Address.{Address}
 use Rattle.fields.specs.Delimiter.{delimiter}
-use Rattle.types.specs.Address.{addressLength, isLong, addressBytes, addressWritten}
-use Rattle.types.proofs.Addresses.{length-address, address-fits}
+use Rattle.types.specs.Address.{addressLength, isLong, addressBytes}
+use Rattle.types.proofs.Addresses.{length-address, lent-address}
 use Rattle.line.specs.Layout.{preambles}
 use Rattle.encode.specs.Encode.{head}
 use borrow.Author.Needs.{needs}
@@ -38,15 +35,6 @@ module _ (t : FrameType) (a : Address) (c n : ℕ) where
       ap (λ (q : List ℕ). set q (at + 1) k) s3
       ∙ put-snoc l 0 ((front ++ addressBytes a) ++ (c ∷ [])) k (at + 1) (omega arith) (omega arith)
       ∙ ap (put l 0) joined
-
-lent-address : (a : Address) (l : List ℕ) (at : ℕ) {r : Reply} {part : List ℕ} → at + addressLength (isLong a) ≤ length l → ends r part ≡ addressWritten a (midOf at (length l - at) l)
-    → putMid at (length l - at) l part ≡ put l at (addressBytes a)
-lent-address a l at {r} {part} h e =
-    let mid = midOf at (length l - at) l in
-    let room : length l - at ≤ length mid = omega (arith, length-take-le (length l - at) (drop at l) (omega (arith, length-drop at l))) in
-    let f : ends r part ≡ wrote (addressBytes a) mid = e ∙ address-fits a mid (omega arith) in
-    let g : part ≡ addressBytes a ++ drop (length (addressBytes a)) mid = cc in
-    lent-put l at (addressBytes a) (omega (arith, length-address a)) g
 
 write-preambles-requires : tie.Need-write-preambles-requires
 write-preambles-requires c κs = search needs

@@ -9,7 +9,7 @@ use lib.Seq.{take-suc, getD-drop, length-take-le}
 use borrow.Author.Needs.{needs}
 use Rattle.octets.specs.Put.{put}
 use Rattle.octets.proofs.Put.{put-nil, put-front, put-snoc}
-use Rattle.framing.proofs.Zeros.{drop-zeros}
+use Rattle.machine.proofs.Zeros.{drop-zeros}
 use Rattle.framing.proofs.frame.data_of.Statement.{statement}
 use Rattle.framing.proofs.frame.data_of.Tie as tie
 

@@ -1,6 +1,6 @@
 -- `Decoder::new` meets its contract.
 use mathlib.Core.Path.{refl}
-use Rattle.framing.specs.Feed.{blank}
+use Rattle.machine.specs.Feed.{blank}
 use Rattle.framing.proofs.decode.Decoder.new.Statement.{statement}
 use Rattle.framing.proofs.decode.Decoder.new.Tie as tie
 

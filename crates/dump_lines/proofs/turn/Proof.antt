@@ -1,0 +1,88 @@
+-- The step as it settles, with what it ended.
+use Prim.Native.Nat.{ℕ, _+_}
+use native.Mathlib.Omega.{arith}
+use mathlib.Core.Path.{_≡_, sym, ap, _∙_}
+use mathlib.Core.Bool.{true}
+use mathlib.Core.List.{List, []}
+use lib.Dec.{leb}
+use lib.ListN.{length}
+use borrow.Author.Tests.{le-leb}
+use Rattle.octets.specs.Put.{put}
+use Rattle.octets.proofs.Put.{put-nil}
+use Rattle.line.specs.Events.{Event, silence}
+use Rattle.machine.specs.declared.state.State.{State}
+use Rattle.machine.specs.declared.state.State.the-variants.{Hunting}
+use Rattle.machine.specs.declared.moved.Ended.{Ended}
+use Rattle.machine.specs.Feed.{Held, holding, blank, stepped}
+use Rattle.machine.specs.Feed.{fresh as freshHeld}
+use Rattle.dump_text.specs.Text.{lineMax, lineOf}
+use Rattle.machine.specs.Feed.{eventOf}
+use Rattle.dump_lines.specs.Lines.{counted, dump, dumpOf, next, told}
+use Rattle.dump_lines.specs.declared.Totals.{Totals}
+use Rattle.dump_lines.proofs.Along.{goes-on, is-over}
+use borrow.Author.Needs.{needs}
+use Rattle.dump_lines.proofs.turn.Statement.{statement}
+use Rattle.dump_lines.proofs.turn.Tie as tie
+
+-- the dump and the line at a byte, from what the byte gives the decoder
+module _ (s : State) (bs : List ℕ) (t : Totals) (b : ℕ) {h : Held} {e : Event} (gives : stepped (holding s bs) b ≡ (h, e)) where
+  next-is : dumpOf h (counted t e) ≡ next (dump s bs t) b
+  next-is = sym (ap (λ (y : Held × Event). dumpOf (y .0) (counted t (y .1))) gives)
+
+  told-is : lineOf (t .bytes) e ≡ told (dump s bs t) b
+  told-is = sym (ap (λ (y : Held × Event). lineOf (t .bytes) (y .1)) gives)
+
+step-requires : tie.Need-step-requires
+step-requires c κs = search needs
+
+counted-requires : tie.Need-counted-requires
+counted-requires c κs = search needs
+
+enum-told : tie.Need-enum-told
+enum-told c = search needs
+
+returns : tie.Need-returns
+returns c =
+    let a = c .before .before .before .before .before .before .args in
+    let st = c .before .before .before .step in
+    let is : stepped (holding (a .state) (a .bytes .now)) (a .byte) ≡ (holding (st .result .state) (st .last .1 .0), silence) = goes-on (a .state) (a .bytes .now) (a .byte) (st .ensures .0) (st .ensures .1) (c .enum-told .given .1) in
+    let line = told-is (a .state) (a .bytes .now) (a .totals) (a .byte) is in
+    let totals : c .before .before .counted .result ≡ counted (a .totals) silence = c .before .before .counted .ensures [] ∙ ap (λ (x : Ended). counted (a .totals) (eventOf x [])) (c .enum-told .given .1) in (
+      ap (dump (st .result .state) (st .last .1 .0)) totals ∙ next-is (a .state) (a .bytes .now) (a .totals) (a .byte) is,
+      (omega (arith, ap length line), sym (put-nil (a .out .now) (a .at)) ∙ ap (put (a .out .now) (a .at)) line),
+    )
+
+write-line-requires : tie.Need-write-line-requires
+write-line-requires c κs = search needs
+
+same-length : tie.Need-same-length
+same-length c = search needs
+
+returns-2 : tie.Need-returns-2
+unfolding blank
+returns-2 c =
+    let a = c .before .before .before .before .before .before .before .before .before .before .before .args in
+    let st = c .before .before .before .before .before .before .before .before .step in
+    let e : Event = eventOf (st .result .ended) (st .last .1 .0) in
+    let is : stepped (holding (a .state) (a .bytes .now)) (a .byte) ≡ (freshHeld, e) = is-over (a .state) (a .bytes .now) (a .byte) (st .ensures .0) (st .ensures .1) (c .before .before .before .before .before .before .match .keys2) in
+    let line = told-is (a .state) (a .bytes .now) (a .totals) (a .byte) is in
+    let w = c .before .before .before .write-line in
+    let fits : leb (a .at + lineMax) (length (a .out .now)) ≡ true = le-leb (a .at + lineMax) (length (a .out .now)) (omega arith) in (
+      ap (dump Hunting blank) (c .before .before .before .before .before .before .before .counted .ensures (st .last .1 .0)) ∙ next-is (a .state) (a .bytes .now) (a .totals) (a .byte) is,
+      (
+        rw fits at (w .ensures .0) ∙ ap (λ (x : List ℕ). a .at + length x) line,
+        rw fits at (w .ensures .1) ∙ ap (put (a .out .now) (a .at)) line,
+      ),
+    )
+
+pub turn-spec : {M : Type 1} → statement M
+turn-spec =
+    tie.close
+    (tie.spec
+    step-requires
+    counted-requires
+    enum-told
+    returns
+    write-line-requires
+    same-length
+    returns-2)

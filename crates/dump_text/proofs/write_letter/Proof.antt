@@ -1,0 +1,44 @@
+-- Two stores.
+use Prim.Native.Nat.{ℕ, _+_}
+use native.Mathlib.Omega.{arith}
+use mathlib.Core.Path.{sym, ap, _∙_}
+use mathlib.Core.List.{List, []}
+use lib.ListN.{set}
+use Rattle.octets.proofs.Put.{put-nil}
+use Rattle.dump_text.proofs.Words.{put-two}
+use borrow.Author.Needs.{needs}
+use Rattle.dump_text.proofs.write_letter.Statement.{statement}
+use Rattle.dump_text.proofs.write_letter.Tie as tie
+
+slice-write-out : tie.Need-slice-write-out
+slice-write-out c = search needs
+
+add-out : tie.Need-add-out
+add-out c = search needs
+
+slice-write-out-2 : tie.Need-slice-write-out-2
+slice-write-out-2 c = search needs
+
+add-result : tie.Need-add-result
+add-result c = search needs
+
+same-length : tie.Need-same-length
+same-length c = search needs
+
+returns : tie.Need-returns
+returns c =
+    let a = c .args in
+    let l = a .out .now in (
+      record {
+        room = omega arith;
+        place = omega arith;
+        content =
+            ap (λ (x : List ℕ). set (set x (a .at) (a .letter)) (a .at + 1) (a .mark)) (sym (put-nil l (a .at)))
+            ∙ put-two l (a .at) [] (a .at) (a .letter) (a .mark) (omega arith) (omega arith);
+      },
+      omega arith,
+    )
+
+pub write-letter-spec : {M : Type 1} → statement M
+write-letter-spec =
+    tie.close (tie.spec slice-write-out add-out slice-write-out-2 add-result same-length returns)

@@ -1,0 +1,127 @@
+// Which decoder values some run of bytes leads to. Document 01, 'What comes back': feeding any other
+// is refused with 8.
+use machine::ADDRESS_ROOM;
+use machine::Claim;
+use machine::Head;
+use machine::ROOM;
+use machine::State;
+use octets::checksum_from;
+use types::address_length;
+use types::consts::MIN_PREAMBLE_COUNT;
+use types::delimiter_byte;
+ghost use mathlib.Core.Path.{_≡_};
+ghost use Prim.Native.Nat.{_≤_};
+ghost use lib.ListN.{length, drop};
+ghost use Rattle.machine.specs.Room.{addressRoom, room};
+ghost use Rattle.machine.specs.Reachable.{claim, noClaim, claimOf, allZero, isRight, reachableAt};
+
+fn no_claim(possible: bool) -> Claim
+    ensures { λ r. ⌜ r ≡ noClaim possible ⌝ }
+{
+    Claim {
+        possible,
+        check: 0,
+        start: 0,
+        address: 0,
+        command: 0,
+        count: 0,
+        loaded: 0,
+    }
+}
+
+fn claimed(possible: bool, head: Head, address: u8, command: u8, count: u8, loaded: u8) -> Claim
+    ensures { λ r. ⌜ r ≡ claim possible head address command count loaded ⌝ }
+{
+    let frame_type = head.frame_type;
+    Claim {
+        possible,
+        check: head.check,
+        start: delimiter_byte(frame_type, head.long),
+        address,
+        command,
+        count,
+        loaded,
+    }
+}
+
+fn claim_of(state: State) -> Claim
+    ensures { λ r. ⌜ r ≡ claimOf state ⌝ }
+{
+    match state {
+        State::Hunting => no_claim(true),
+        State::Preamble(count) => no_claim((0 < count) & (count <= MIN_PREAMBLE_COUNT)),
+        State::Address { head, received } => {
+            let all = address_length(head.long);
+            claimed(received < all, head, received, 0, 0, 0)
+        }
+        State::Command { head } => claimed(true, head, address_length(head.long), 0, 0, 0),
+        State::ByteCount { head, command } => claimed(
+            true,
+            head,
+            address_length(head.long),
+            command,
+            0,
+            0,
+        ),
+        State::Data {
+            head,
+            command,
+            expected,
+            received,
+        } => {
+            let all = address_length(head.long);
+            claimed(received < expected, head, all, command, expected, received)
+        }
+        State::Checksum {
+            head,
+            command,
+            expected,
+        } => {
+            let all = address_length(head.long);
+            claimed(true, head, all, command, expected, expected)
+        }
+    }
+}
+
+// Whether all is zero from place n on. No byte ends the loop early, so that the compiler can take many at
+// a time.
+fn is_zero_from(bytes: &[u8], n: u8) -> bool
+    ensures { λ r. ⌜ r ≡ allZero (drop n (now (bytes .entry))) ⌝ }
+{
+    let mut zero = true;
+    let mut i = n as usize;
+    while i < bytes.len() {
+        zero = zero & (bytes[i] == 0);
+        i += 1;
+    }
+    zero
+}
+
+// Whether the check is that of the bytes that were read.
+fn is_right(claim: Claim, bytes: &[u8]) -> bool
+    requires { ⌜ (claim .address ≤ addressRoom) × (length (now bytes) ≡ room) ⌝ }
+    ensures { λ r. ⌜ r ≡ isRight claim (now (bytes .entry)) ⌝ }
+{
+    let address_end = claim.address as usize;
+    let data_end = ADDRESS_ROOM + claim.loaded as usize;
+    let addressed = checksum_from(claim.start, &bytes[..address_end]);
+    let counted = addressed ^ claim.command ^ claim.count;
+    let loaded = checksum_from(counted, &bytes[ADDRESS_ROOM..data_end]);
+    claim.check == loaded
+}
+
+pub fn is_reachable(state: State, bytes: &[u8]) -> bool
+    ensures { λ r. ⌜ r ≡ reachableAt state (now (bytes .entry)) ⌝ }
+{
+    if bytes.len() != ROOM {
+        return false;
+    }
+    let claim = claim_of(state);
+    if claim.possible {
+        let address_clear = is_zero_from(&bytes[..ADDRESS_ROOM], claim.address);
+        let data_clear = is_zero_from(&bytes[ADDRESS_ROOM..], claim.loaded);
+        let right = is_right(claim, bytes);
+        return address_clear & data_clear & right;
+    }
+    false
+}

@@ -1,0 +1,90 @@
+-- The loop's invariant: the first g groups stand packed at the front of the buffer.
+use Prim.Native.Nat.{_-_, _≤_}
+use native.Mathlib.Omega.{arith}
+use mathlib.Core.Path.{_≡_, refl, ap, _∙_}
+use lib.ListN.{length}
+use borrow.Author.Needs.{needs}
+use Rattle.octets.specs.Put.{put}
+use Rattle.octets.proofs.Parts.{parts-start}
+use Rattle.text_groups.specs.Groups.{packedGroup, packed, packedCount}
+use Rattle.text_groups.proofs.Groups.{group-turn, packed-sized}
+use Rattle.text_groups.proofs.pack.Statement.{statement}
+use Rattle.text_groups.proofs.pack.Tie as tie
+
+abbrev Inv-loop : tie.InvT-loop
+Inv-loop mode src dst₀ n-groups g₀ dst g = (g ≤ n-groups) × (dst ≡ put dst₀ 0 (packed mode src g)) × (length dst ≡ length dst₀)
+
+abbrev μ-loop : tie.MeasureT-loop
+μ-loop mode src dst₀ n-groups g₀ dst g = n-groups - g
+
+groups-of-requires : tie.Need-groups-of-requires Inv-loop μ-loop
+groups-of-requires c κs = search needs
+
+least-requires : tie.Need-least-requires Inv-loop μ-loop
+least-requires c κs = search needs
+
+loop-holds : tie.Need-loop-holds Inv-loop μ-loop
+loop-holds c =
+    let a = c .before .before .before .before .args in (omega arith, parts-start (packedGroup (a .mode) (a .src .now)) (a .dst .now), refl)
+
+packed-at-requires : tie.Need-packed-at-requires Inv-loop μ-loop
+packed-at-requires c κs = omega arith
+
+slice-aggregate-write-group : tie.Need-slice-aggregate-write-group Inv-loop μ-loop
+slice-aggregate-write-group c = search needs
+
+mul-write-group : tie.Need-mul-write-group Inv-loop μ-loop
+mul-write-group c = omega arith
+
+write-group-requires : tie.Need-write-group-requires Inv-loop μ-loop
+write-group-requires c κs =
+    let l = c .before .before .before .before in
+    let a = l .before .before .before .before .before .args in
+    let p = c .before .before .packed-at in
+    let size : length (p .result) ≡ 3 = ap length (p .ensures) ∙ packed-sized (a .mode) (a .src .now) (l .loop .g) in omega arith
+
+add-g : tie.Need-add-g Inv-loop μ-loop
+add-g c = omega arith
+
+loop-less : tie.Need-loop-less Inv-loop μ-loop
+loop-less c = omega arith
+
+loop-again : tie.Need-loop-again Inv-loop μ-loop
+loop-again c =
+    let l = c .before .before .before .before .before .before .before in
+    let a = l .before .before .before .before .before .args in
+    let m = a .mode in
+    let s = a .src .now in
+    let w = c .before .before .write-group in (
+      omega arith,
+      group-turn (packedGroup m s) 3 (packed-sized m s) (a .dst .now) (l .loop .g) (l .loop .inv .1) (c .before .before .before .before .before .packed-at .ensures) (w .ensures) (omega arith),
+      w .kept .1 .0 ∙ l .loop .inv .2,
+    )
+
+same-length : tie.Need-same-length Inv-loop μ-loop
+same-length c = c .before .loop .inv .2
+
+returns : tie.Need-returns Inv-loop μ-loop
+returns c =
+    let a = c .before .before .before .before .before .before .args in
+    let n : c .before .before .least .result ≡ packedCount (a .src .now) (a .dst .now) = omega arith in
+    let e : c .before .loop .g ≡ packedCount (a .src .now) (a .dst .now) = omega arith in (n, rw e at (c .before .loop .inv .1))
+
+pub pack-spec : {M : Type 1} → statement M
+pack-spec =
+    tie.close
+    (tie.spec
+    Inv-loop
+    μ-loop
+    groups-of-requires
+    least-requires
+    loop-holds
+    packed-at-requires
+    slice-aggregate-write-group
+    mul-write-group
+    write-group-requires
+    add-g
+    loop-less
+    loop-again
+    same-length
+    returns)

@@ -1,0 +1,86 @@
+-- The loop's invariant: the first g groups stand unpacked at the front of the buffer.
+use Prim.Native.Nat.{_-_, _≤_}
+use native.Mathlib.Omega.{arith}
+use mathlib.Core.Path.{_≡_, refl, ap, _∙_}
+use lib.ListN.{length}
+use borrow.Author.Needs.{needs}
+use Rattle.octets.specs.Put.{put}
+use Rattle.octets.proofs.Parts.{parts-start}
+use Rattle.text_groups.specs.Groups.{unpackedGroup, unpacked, unpackedCount}
+use Rattle.text_groups.proofs.Groups.{group-turn, unpacked-sized}
+use Rattle.text_groups.proofs.unpack.Statement.{statement}
+use Rattle.text_groups.proofs.unpack.Tie as tie
+
+abbrev Inv-loop : tie.InvT-loop
+Inv-loop mode src dst₀ n-groups g₀ dst g = (g ≤ n-groups) × (dst ≡ put dst₀ 0 (unpacked mode src g)) × (length dst ≡ length dst₀)
+
+abbrev μ-loop : tie.MeasureT-loop
+μ-loop mode src dst₀ n-groups g₀ dst g = n-groups - g
+
+least-requires : tie.Need-least-requires Inv-loop μ-loop
+least-requires c κs = search needs
+
+loop-holds : tie.Need-loop-holds Inv-loop μ-loop
+loop-holds c =
+    let a = c .before .before .before .args in (omega arith, parts-start (unpackedGroup (a .mode) (a .src .now)) (a .dst .now), refl)
+
+unpacked-at-requires : tie.Need-unpacked-at-requires Inv-loop μ-loop
+unpacked-at-requires c κs = omega arith
+
+slice-aggregate-write-group : tie.Need-slice-aggregate-write-group Inv-loop μ-loop
+slice-aggregate-write-group c = search needs
+
+mul-write-group : tie.Need-mul-write-group Inv-loop μ-loop
+mul-write-group c = omega arith
+
+write-group-requires : tie.Need-write-group-requires Inv-loop μ-loop
+write-group-requires c κs =
+    let l = c .before .before .before .before in
+    let a = l .before .before .before .before .args in
+    let p = c .before .before .unpacked-at in
+    let size : length (p .result) ≡ 4 = ap length (p .ensures) ∙ unpacked-sized (a .mode) (a .src .now) (l .loop .g) in omega arith
+
+add-g : tie.Need-add-g Inv-loop μ-loop
+add-g c = omega arith
+
+loop-less : tie.Need-loop-less Inv-loop μ-loop
+loop-less c = omega arith
+
+loop-again : tie.Need-loop-again Inv-loop μ-loop
+loop-again c =
+    let l = c .before .before .before .before .before .before .before in
+    let a = l .before .before .before .before .args in
+    let m = a .mode in
+    let s = a .src .now in
+    let w = c .before .before .write-group in (
+      omega arith,
+      group-turn (unpackedGroup m s) 4 (unpacked-sized m s) (a .dst .now) (l .loop .g) (l .loop .inv .1) (c .before .before .before .before .before .unpacked-at .ensures) (w .ensures) (omega arith),
+      w .kept .1 .0 ∙ l .loop .inv .2,
+    )
+
+same-length : tie.Need-same-length Inv-loop μ-loop
+same-length c = c .before .loop .inv .2
+
+returns : tie.Need-returns Inv-loop μ-loop
+returns c =
+    let a = c .before .before .before .before .before .args in
+    let n : c .before .before .least .result ≡ unpackedCount (a .src .now) (a .dst .now) = omega arith in
+    let e : c .before .loop .g ≡ unpackedCount (a .src .now) (a .dst .now) = omega arith in (n, rw e at (c .before .loop .inv .1))
+
+pub unpack-spec : {M : Type 1} → statement M
+unpack-spec =
+    tie.close
+    (tie.spec
+    Inv-loop
+    μ-loop
+    least-requires
+    loop-holds
+    unpacked-at-requires
+    slice-aggregate-write-group
+    mul-write-group
+    write-group-requires
+    add-g
+    loop-less
+    loop-again
+    same-length
+    returns)
