@@ -117,8 +117,9 @@ unsigned int hart_clear(unsigned char *block, unsigned long block_length);
 /* What is in a block, for those who look into one or test this library; callers need none of it.
  * HART_HEADER_SIZE bytes of fields come first, the most significant bit of each byte first:
  *
- *     bits 0..2     phase: hunting, preamble, address, command, byte count, data, check as 0 to 6
- *     bits 3..4     type: request, response, burst as 0 to 2
+ *     bits 0..2     phase: 0 hunting, 1 preamble, 2 address, 3 command, 4 byte count, 5 data,
+ *                   6 check
+ *     bits 3..4     type: 0 request, 1 response, 2 burst
  *     bit  5        address is long
  *     bits 6..8     preamble bytes seen, 5 for any more; 0 outside the preamble phase
  *     bits 9..11    address bytes received

@@ -1,5 +1,5 @@
 -- Document 01, 'For the C host': the 48 bits in front of a state block, and which state they say.
-use Prim.Native.Nat.{ℕ}
+use Prim.Native.Nat.{ℕ, _+_}
 use mathlib.Core.Bool.{Bool, true, false, cond}
 use mathlib.Core.List.{[], _∷_}
 use lib.Dec.{eqb}
@@ -19,6 +19,7 @@ use Rattle.machine.specs.declared.state.State.the-variants.{
   Data,
   Checksum,
 }
+use Rattle.block_header.specs.declared.Fields.{Fields}
 use Rattle.block_header.specs.Bits.{in-bits, packed, field}
 
 abbrev pub longBit : Bool → ℕ
@@ -33,6 +34,10 @@ bits phase type long preambles address expected received command check =
 -- behind a delimiter: what it said and the check so far, and no preamble count any more
 abbrev pub headBits : ℕ → Head → ℕ → ℕ → ℕ → ℕ → ℕ
 headBits phase h address expected received command = bits phase (typeNumber (h .«frame_type»)) (longBit (h .long)) 0 address expected received command (h .check)
+
+-- what the code's fields come to: those that most phases have, and the counts, which stand at their places already
+abbrev pub summed : Fields → ℕ
+summed f = bits (f .phase) (f .«frame_type») (f .long) 0 (f .address) 0 0 0 (f .check) + f .counts
 
 -- the phases from 0; the address stays received behind its phase, and whatever is not yet read is zero
 unfoldable pub headerOf : State → ℕ

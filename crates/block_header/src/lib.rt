@@ -4,11 +4,12 @@ use machine::Head;
 use machine::State;
 use types::FrameType;
 use types::address_length;
+ghost use Prim.Native.Nat.{_^_, _<_};
 ghost use mathlib.Core.Path.{_≡_};
 ghost use mathlib.Core.List.{[], _∷_};
 ghost use Rattle.octets.specs.Digits.{digits, fromDigits};
 ghost use Rattle.types.specs.Address.{addressLength};
-ghost use Rattle.block_header.specs.Header.{longBit, bits, headBits, headerOf, typeAt, headAt, stateAt};
+ghost use Rattle.block_header.specs.Header.{longBit, bits, headBits, summed, headerOf, typeAt, headAt, stateAt};
 
 // The bit that a block and a record have for a long address.
 pub fn long_bit(long: bool) -> u8
@@ -20,61 +21,72 @@ pub fn long_bit(long: bool) -> u8
     0
 }
 
-// The fields side by side, and four bits that are zero.
-fn packed(
+// The fields of a header, each phase's in one shape: they are packed in one place, and `header_of` is small
+// enough for the compiler to take it into its callers. The counts, of preambles or of data, and the command
+// are one number, in which each stands as in the header.
+struct Fields {
     phase: u8,
     frame_type: u8,
     long: u8,
-    preambles: u8,
     address: u8,
-    expected: u8,
-    received: u8,
-    command: u8,
     check: u8,
-) -> u64
-    ensures { λ r. ⌜ r ≡ bits phase «frame_type» long preambles address expected received command check ⌝ }
+    counts: u64,
+}
+
+// The fields side by side, and four bits that are zero.
+fn packed(fields: Fields) -> u64
+    requires { ⌜ fields .counts < 2 ^ 48 ⌝ }
+    ensures { λ r. ⌜ r ≡ summed fields ⌝ }
 {
-    let opened = (phase as u64 * 4 + frame_type as u64) * 2 + long as u64;
-    let read = (opened * 8 + preambles as u64) * 8 + address as u64;
-    let loaded = (read * 256 + expected as u64) * 256 + received as u64;
-    ((loaded * 256 + command as u64) * 256 + check as u64) * 16
+    let opened = (fields.phase as u64 * 4 + fields.frame_type as u64) * 2 + fields.long as u64;
+    let front = opened * 0x400_0000_0000 + fields.address as u64 * 0x10_0000_0000;
+    front + fields.counts + fields.check as u64 * 16
+}
+
+// The fields of a state before a delimiter.
+fn without_head(phase: u8, preambles: u8) -> Fields
+    ensures { λ r. ⌜ (r .counts < 2 ^ 48) × (summed r ≡ bits phase 0 0 preambles 0 0 0 0 0) ⌝ }
+{
+    Fields {
+        phase,
+        frame_type: 0,
+        long: 0,
+        address: 0,
+        check: 0,
+        counts: preambles as u64 * 0x80_0000_0000,
+    }
 }
 
 // The fields of a state behind a delimiter. The data's two counts and the command are 0 until read.
-fn with_head(phase: u8, head: Head, address: u8, expected: u8, received: u8, command: u8) -> u64
-    ensures { λ r. ⌜ r ≡ headBits phase head address expected received command ⌝ }
+fn with_head(phase: u8, head: Head, address: u8, expected: u8, received: u8, command: u8) -> Fields
+    ensures { λ r. ⌜ (r .counts < 2 ^ 48) × (summed r ≡ headBits phase head address expected received command) ⌝ }
 {
     let frame_type = head.frame_type;
-    let number = frame_type.number();
-    let long = long_bit(head.long);
-    packed(
+    let loaded = expected as u64 * 256 + received as u64;
+    Fields {
         phase,
-        number,
-        long,
-        0,
+        frame_type: frame_type.number(),
+        long: long_bit(head.long),
         address,
-        expected,
-        received,
-        command,
-        head.check,
-    )
+        check: head.check,
+        counts: (loaded * 256 + command as u64) * 0x1000,
+    }
 }
 
 // The same behind the address, which stays received.
-fn behind_address(phase: u8, head: Head, expected: u8, received: u8, command: u8) -> u64
-    ensures { λ r. ⌜ r ≡ headBits phase head (addressLength (head .long)) expected received command ⌝ }
+fn behind_address(phase: u8, head: Head, expected: u8, received: u8, command: u8) -> Fields
+    ensures { λ r. ⌜ (r .counts < 2 ^ 48) × (summed r ≡ headBits phase head (addressLength (head .long)) expected received command) ⌝ }
 {
     let address = address_length(head.long);
     with_head(phase, head, address, expected, received, command)
 }
 
-// The header that says this state.
-pub fn header_of(state: State) -> u64
-    ensures { λ r. ⌜ r ≡ headerOf state ⌝ }
+fn fields_of(state: State) -> Fields
+    ensures { λ r. ⌜ (r .counts < 2 ^ 48) × (summed r ≡ headerOf state) ⌝ }
 {
     match state {
-        State::Hunting => 0,
-        State::Preamble(count) => packed(1, 0, 0, count, 0, 0, 0, 0, 0),
+        State::Hunting => without_head(0, 0),
+        State::Preamble(count) => without_head(1, count),
         State::Address { head, received } => with_head(2, head, received, 0, 0, 0),
         State::Command { head } => behind_address(3, head, 0, 0, 0),
         State::ByteCount { head, command } => behind_address(4, head, 0, 0, command),
@@ -90,6 +102,13 @@ pub fn header_of(state: State) -> u64
             expected,
         } => behind_address(6, head, expected, expected, command),
     }
+}
+
+// The header that says this state.
+pub fn header_of(state: State) -> u64
+    ensures { λ r. ⌜ r ≡ headerOf state ⌝ }
+{
+    packed(fields_of(state))
 }
 
 fn type_at(header: u64) -> FrameType

@@ -3,6 +3,7 @@
 use framing::PayloadVerdict;
 use framing::payload_part;
 use framing::typed_verdict;
+use octets::copy_into;
 use octets::decode_u32_be;
 use packed_string::Mode;
 use reading::Reading;
@@ -59,11 +60,7 @@ pub fn encode_data(slot_codes: &[u8], buf: &mut [u8]) -> Written
     if buf.len() < slot_codes.len() {
         return Written::Refused(Refusal::BufferTooSmall);
     }
-    let mut i = 0;
-    while i < slot_codes.len() {
-        buf[i] = slot_codes[i];
-        i += 1;
-    }
+    copy_into(slot_codes, buf, 0);
     Written::Count(slot_codes.len())
 }
 

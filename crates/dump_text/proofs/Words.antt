@@ -6,7 +6,6 @@ use mathlib.Core.Bool.{Bool, true, false, cond}
 use mathlib.Core.List.{List, [], _∷_, _++_}
 use lib.Dec.{ltb}
 use lib.ListN.{length, drop, set, length-append}
-use lib.Seq.{append-snoc}
 use borrow.Author.Tests.{le-leb, lt-leb}
 use Rattle.refusal.specs.Outcome.{done, ends, wrote, refuses}
 use Rattle.octets.specs.Put.{put}
@@ -23,13 +22,6 @@ marked l at word mark i {b} e f h =
       place = omega arith;
       content = ap (λ (x : List ℕ). set x i mark) e ∙ put-snoc l at word mark i (omega arith) (sym f);
     }
-
--- two stores right behind what was put
-pub put-two : (l : List ℕ) (at : ℕ) (bs : List ℕ) (place d e : ℕ) → place ≡ at + length bs → place + 1 < length l → set (set (put l at bs) place d) (place + 1) e ≡ put l at (bs ++ (d ∷ e ∷ []))
-put-two l at bs place d e p h =
-    ap (λ (x : List ℕ). set x (place + 1) e) (put-snoc l at bs d place (omega arith) (sym p))
-    ∙ put-snoc l at (bs ++ (d ∷ [])) e (place + 1) h (omega (arith, length-append bs (d ∷ [])))
-    ∙ ap (put l at) (append-snoc bs d (e ∷ []))
 
 -- no text
 pub unwritten : (l : List ℕ) (at : ℕ) → at ≤ length l → Writes l at [] at l

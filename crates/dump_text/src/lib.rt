@@ -7,6 +7,7 @@ use machine::ADDRESS_ROOM;
 use machine::Ended;
 use machine::Head;
 use machine::ROOM;
+use octets::copy_into;
 use refusal::Refusal;
 use refusal::Written;
 use types::Address;
@@ -49,13 +50,10 @@ fn write_word(word: &[u8], mark: u8, out: &mut [u8], at: usize) -> usize
     ensures { λ r. ⌜ Writes (now (out .entry)) at (now (word .entry) ++ (mark ∷ [])) r (now (out .exit)) ⌝ }
     ensures { λ r. ⌜ r ≡ at + length (now (word .entry)) + 1 ⌝ }
 {
-    let mut i: usize = 0;
-    while i < word.len() {
-        out[at + i] = word[i];
-        i += 1;
-    }
-    out[at + i] = mark;
-    at + i + 1
+    copy_into(word, out, at);
+    let behind = at + word.len();
+    out[behind] = mark;
+    behind + 1
 }
 
 fn write_number(number: u64, mark: u8, out: &mut [u8], at: usize) -> usize
@@ -128,8 +126,8 @@ fn write_start(letter: u8, place: u64, out: &mut [u8], at: usize) -> usize
     ensures { λ r. ⌜ Writes (now (out .entry)) at (start letter place) r (now (out .exit)) ⌝ }
     ensures { λ r. ⌜ r ≤ at + 23 ⌝ }
 {
-    let placed = write_letter(letter, SPACE, out, at);
-    write_number(place, SPACE, out, placed)
+    let after_letter = write_letter(letter, SPACE, out, at);
+    write_number(place, SPACE, out, after_letter)
 }
 
 // The frame that the 260 bytes hold at its check byte.
@@ -146,11 +144,11 @@ fn write_frame(
     ensures { λ r. ⌜ Writes (now (out .entry)) at (frameLine place (wireAt head command n (now (bytes .entry)))) r (now (out .exit)) ⌝ }
 {
     let frame_type = head.frame_type;
-    let typed = write_start(b'F', place, out, at);
-    let addressed = write_letter(letter(frame_type), SPACE, out, typed);
-    let commanded = write_address(bytes, head.long, SPACE, out, addressed);
-    let loaded = write_number(command as u64, SPACE, out, commanded);
-    write_data(bytes, n, NEWLINE, out, loaded)
+    let after_start = write_start(b'F', place, out, at);
+    let after_type = write_letter(letter(frame_type), SPACE, out, after_start);
+    let after_address = write_address(bytes, head.long, SPACE, out, after_type);
+    let after_command = write_number(command as u64, SPACE, out, after_address);
+    write_data(bytes, n, NEWLINE, out, after_command)
 }
 
 // A line's bytes are refused with 4 or 5 alone; any other refusal has no line.
@@ -159,13 +157,13 @@ fn write_refusal(place: u64, refusal: Refusal, out: &mut [u8], at: usize) -> usi
     ensures { λ r. ⌜ Writes (now (out .entry)) at (refusalLine place refusal) r (now (out .exit)) ⌝ }
 {
     if let Refusal::InvalidDelimiter(byte) = refusal {
-        let told = write_start(b'D', place, out, at);
-        return write_hex(&[byte], NEWLINE, out, told);
+        let after_start = write_start(b'D', place, out, at);
+        return write_hex(&[byte], NEWLINE, out, after_start);
     }
     if let Refusal::ChecksumMismatch { expected, actual } = refusal {
-        let told = write_start(b'C', place, out, at);
-        let next = write_hex(&[expected], SPACE, out, told);
-        return write_hex(&[actual], NEWLINE, out, next);
+        let after_start = write_start(b'C', place, out, at);
+        let after_expected = write_hex(&[expected], SPACE, out, after_start);
+        return write_hex(&[actual], NEWLINE, out, after_expected);
     }
     at
 }
@@ -201,8 +199,8 @@ pub fn write_end(bytes: u64, frames: u64, refusals: u64, out: &mut [u8]) -> Writ
     if out.len() < LINE_MAX {
         return Written::Refused(Refusal::BufferTooSmall);
     }
-    let counted = write_word(b"end", SPACE, out, 0);
-    let framed = write_number(bytes, SPACE, out, counted);
-    let refused = write_number(frames, SPACE, out, framed);
-    Written::Count(write_number(refusals, NEWLINE, out, refused))
+    let after_end = write_word(b"end", SPACE, out, 0);
+    let after_bytes = write_number(bytes, SPACE, out, after_end);
+    let after_frames = write_number(frames, SPACE, out, after_bytes);
+    Written::Count(write_number(refusals, NEWLINE, out, after_frames))
 }

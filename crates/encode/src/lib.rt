@@ -1,5 +1,6 @@
-// From frames to bytes (encode.rs): head, data, seal, each written at its place in the lent buffer.
+// From frames to bytes (encode.rs): head, data, check, each written at its place in the lent buffer.
 use octets::checksum_from;
+use octets::copy_into;
 use refusal::Refusal;
 use refusal::Written;
 use types::Address;
@@ -9,9 +10,8 @@ use types::consts::MAX_DATA_LENGTH;
 use types::consts::PREAMBLE_BYTE;
 use types::delimiter_byte;
 ghost use mathlib.Core.Path.{_≡_};
-ghost use mathlib.Core.List.{[], _∷_};
-ghost use Prim.Native.Nat.{_+_, _-_, _≤_, _<_};
-ghost use lib.ListN.{length, take, drop};
+ghost use Prim.Native.Nat.{_+_, _≤_};
+ghost use lib.ListN.{length};
 ghost use Rattle.refusal.specs.Outcome.{ends, replyOf};
 ghost use Rattle.octets.specs.Check.{check};
 ghost use Rattle.octets.specs.Put.{put};
@@ -60,24 +60,14 @@ fn write_head(
     next + 2
 }
 
-fn write_data(data: &[u8], buf: &mut [u8], at: usize)
-    requires { ⌜ at + length (now «data») ≤ length (now buf) ⌝ }
-    ensures { λ _. ⌜ now (buf .exit) ≡ put (now (buf .entry)) at (now («data» .entry)) ⌝ }
+// The check of a frame's head. Command and count, its last bytes, are taken by themselves: all of it was
+// stored byte by byte just before, and a read of eight bytes at once would wait for those stores.
+fn check_of_head(head: &[u8]) -> u8
+    requires { ⌜ 2 ≤ length (now head) ⌝ }
+    ensures { λ r. ⌜ r ≡ check (now (head .entry)) ⌝ }
 {
-    let mut i = 0;
-    while i < data.len() {
-        buf[at + i] = data[i];
-        i += 1;
-    }
-}
-
-// The check of what stands from place `from` up to `to`, written at `to`.
-fn seal(buf: &mut [u8], from: usize, to: usize)
-    requires { ⌜ (from ≤ to) × (to < length (now buf)) ⌝ }
-    ensures { λ _. ⌜ now (buf .exit) ≡ put (now (buf .entry)) to (check (take (to - from) (drop from (now (buf .entry)))) ∷ []) ⌝ }
-{
-    let checksum = checksum_from(0, &buf[from..to]);
-    buf[to] = checksum;
+    let next = head.len() - 2;
+    checksum_from(0, &head[..next]) ^ head[next] ^ head[next + 1]
 }
 
 // The whole frame to the front of the buffer, and how many bytes that is.
@@ -107,7 +97,9 @@ pub fn encode_frame(
         preamble_count,
         buf,
     );
-    write_data(data, buf, at);
-    seal(buf, from, at + data.len());
+    let checksum = checksum_from(check_of_head(&buf[from..at]), data);
+    copy_into(data, buf, at);
+    let to = at + data.len();
+    buf[to] = checksum;
     Written::Count(total)
 }

@@ -6,6 +6,7 @@ use framing::Decoder;
 use framing::Heard;
 use framing::State;
 use framing::encode_frame;
+use octets::copy_into;
 use refusal::Refusal;
 use report::answer_of;
 use report::print;
@@ -16,8 +17,6 @@ use report::print_right;
 use types::Address;
 use types::FrameType;
 use types::MasterRole;
-ghost use Prim.Native.Nat.{_+_, _≤_};
-ghost use lib.ListN.{length};
 
 // The longest run here: 700 FF and a frame.
 const ROOM: usize = 720;
@@ -75,16 +74,6 @@ fn print_heard(heard: Heard) {
     }
 }
 
-fn put(run: &mut [u8], at: usize, bytes: &[u8])
-    requires { ⌜ at + length (now bytes) ≤ length (now run) ⌝ }
-{
-    let mut i: usize = 0;
-    while i < bytes.len() {
-        run[at + i] = bytes[i];
-        i += 1;
-    }
-}
-
 fn heard_of(run: &[u8], end: usize) -> Heard {
     if run.len() < end {
         return lent::listen(run, 0);
@@ -95,13 +84,8 @@ fn heard_of(run: &[u8], end: usize) -> Heard {
 // What is heard first in the front of a run of so many FF, these bytes, and FF.
 fn behind(preambles: usize, bytes: &[u8], end: usize) -> Heard {
     let mut run = [0xFFu8; ROOM];
-    if preambles <= ROOM {
-        if bytes.len() <= ROOM - preambles {
-            put(&mut run, preambles, bytes);
-            return heard_of(&run, end);
-        }
-    }
-    heard_of(&run, 0)
+    copy_into(bytes, &mut run, preambles);
+    heard_of(&run, end)
 }
 
 fn is_silence(answer: Answer) -> bool {

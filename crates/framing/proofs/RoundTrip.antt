@@ -4,15 +4,14 @@ use Prim.Native.Nat.{ℕ, _+_, _-_, _≤_, _<_}
 use native.Mathlib.Omega.{arith}
 use mathlib.Core.Path.{_≡_, refl, sym, ap, ap₂, subst, _∙_}
 use mathlib.Core.Logic.{_≢_}
-use mathlib.Core.Bool.{Bool, true, false}
 use mathlib.Core.List.{List, [], _∷_, _++_, map, append-assoc, append-nil, map-append}
 use lib.Dec.{lit<}
 use lib.ListN.{length, take, replicate, length-append}
 use Rattle.octets.proofs.Check.{check-below}
 use Rattle.fields.specs.Delimiter.{delimiter}
-use Rattle.types.specs.Address.{addressLength, readAddress, isLong, addressBytes, Limited}
+use Rattle.types.specs.Address.{addressLength, isLong, addressBytes, Limited}
 use Rattle.fields.proofs.Delimiters.{delimiter-small}
-use Rattle.types.proofs.Addresses.{length-address, address-bytes-below, address-back}
+use Rattle.types.proofs.Addresses.{length-address, address-bytes-below, address-back, long-read}
 use Rattle.line.specs.Layout.{Wire, Fits, preambles, body, checkOf}
 use Rattle.line.specs.Pieces.{Piece, noise, shortRun, badDelimiter, frame, badCheck, front, bytesOf, Bytes, joined, AllHold, Cut, nothing}
 use Rattle.line.specs.Events.{Event, silence, found, verdict, silent, saidBy, dictated, gather, framesIn}
@@ -82,10 +81,6 @@ written-heard h enough limits before count after e ps hold small =
     (map-append heardOf (silent (front f)) (found (written h) ∷ []) ∙ ap₂ (λ (hs : List Heard) (x : Heard). hs ++ (x ∷ [])) (quiet (front f) ∙ ap (λ (k : ℕ). replicate k (heardOf silence)) last) (told-back h limits))
 
 -- a frame of a shorter run is another one: too few bytes stand there for five preamble bytes and the same address and data
-long-read : (long : Bool) (bs : List ℕ) → isLong (readAddress long bs) ≡ long
-long-read false bs = refl
-long-read true bs = refl
-
 module _ (w : Wire) where
   abbrev Short-run : List Piece → Type 0
   Short-run ps = length (joined ps) < 9 + addressLength (w .long) + length (w .payload)

@@ -2,6 +2,7 @@
 use machine::ADDRESS_ROOM;
 use machine::Frame;
 use machine::Head;
+use octets::copy_into;
 use types::Address;
 use types::consts::MAX_DATA_LENGTH;
 ghost use mathlib.Core.Path.{_≡_};
@@ -15,12 +16,8 @@ fn data_of(bytes: &[u8], n: u8) -> [u8; MAX_DATA_LENGTH]
     ensures { λ r. ⌜ r ≡ padded dataRoom (take n (drop addressRoom (now (bytes .entry)))) ⌝ }
 {
     let mut data = [0u8; MAX_DATA_LENGTH];
-    let end = n as usize;
-    let mut i: usize = 0;
-    while i < end {
-        data[i] = bytes[ADDRESS_ROOM + i];
-        i += 1;
-    }
+    let to = ADDRESS_ROOM + n as usize;
+    copy_into(&bytes[ADDRESS_ROOM..to], &mut data, 0);
     data
 }
 

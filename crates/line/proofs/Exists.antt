@@ -57,7 +57,7 @@ use Rattle.line.proofs.Scan.{
   Fine,
 }
 use Rattle.line.proofs.Steps.{steps-ends, address-some, held-steps}
-use Rattle.line.proofs.Bytes.{bytes-append, bytes-right, bytes-replicate}
+use Rattle.line.proofs.Bytes.{bytes-append, bytes-right, bytes-replicate, one-more}
 
 abbrev bytesOut : Option Piece → List ℕ
 bytesOut none = []
@@ -89,17 +89,11 @@ module _ (n b : ℕ) (enough : 5 ≤ n) (small : b < 256) where
 
   sound-within : (p : Phase) → Sized p → Bytes (opened p) → Sound (within n p) b (scanWithin n p b)
   unfolding scanWithin
-  sound-within (addressing t l ad) z k = by (eqb (length (ad ++ (b ∷ []))) (addressLength l)) refl
-    where
-      longer : length (ad ++ (b ∷ [])) ≡ length ad + 1
-      longer = length-append ad (b ∷ [])
-
-      by : (y : Bool) → eqb (length (ad ++ (b ∷ []))) (addressLength l) ≡ y
-          → Sound (within n (addressing t l ad)) b (cond y (within n (commanding t l (ad ++ (b ∷ [])))) (within n (addressing t l (ad ++ (b ∷ [])))), none)
-      by true e = sound-on (addressing t l ad) (commanding t l (ad ++ (b ∷ []))) k (eqb-true (length (ad ++ (b ∷ []))) (addressLength l) e) refl
-      by false e =
-          sound-on (addressing t l ad) (addressing t l (ad ++ (b ∷ []))) k
-          (omega (arith, z, longer, eqb-false (length (ad ++ (b ∷ []))) (addressLength l) e)) refl
+  sound-within (addressing t l ad) z k =
+      one-more (λ (s : Scan). Sound (within n (addressing t l ad)) b (s, none)) ad b (addressLength l)
+      (within n (commanding t l (ad ++ (b ∷ [])))) (within n (addressing t l (ad ++ (b ∷ [])))) z
+      (λ full. sound-on (addressing t l ad) (commanding t l (ad ++ (b ∷ []))) k full refl)
+      (λ short. sound-on (addressing t l ad) (addressing t l (ad ++ (b ∷ []))) k short refl)
   sound-within (commanding t l ad) z k = sound-on (commanding t l ad) (counting t l ad b) k z refl
   sound-within (counting t l ad c) z k = by (eqb 0 b) refl
     where
@@ -109,23 +103,13 @@ module _ (n b : ℕ) (enough : 5 ≤ n) (small : b < 256) where
           (rw (sym (eqb-true 0 b e)) (behind (delimiter t l) ad (c ∷ []) (0 ∷ [])))
       by false e =
           sound-on (counting t l ad c) (loading t l ad c b []) k (z, omega (arith, eqb-false 0 b e)) (behind (delimiter t l) ad (c ∷ []) (b ∷ []))
-  sound-within (loading t l ad c m ds) z k = by (eqb (length (ds ++ (b ∷ []))) m) refl
-    where
-      longer : length (ds ++ (b ∷ [])) ≡ length ds + 1
-      longer = length-append ds (b ∷ [])
-
-      count-small : m < 256
-      count-small = bytes-right ad (c ∷ m ∷ ds) (k .1) .1 .0
-
-      by : (y : Bool) → eqb (length (ds ++ (b ∷ []))) m ≡ y
-          → Sound (within n (loading t l ad c m ds)) b (cond y (within n (checking (wire t l ad c (ds ++ (b ∷ []))))) (within n (loading t l ad c m (ds ++ (b ∷ [])))), none)
-      by true e =
-          let full : length (ds ++ (b ∷ [])) ≡ m = eqb-true (length (ds ++ (b ∷ []))) m e in
-          sound-on (loading t l ad c m ds) (checking (wire t l ad c (ds ++ (b ∷ [])))) k (record { addressed = z .0; counted = omega (arith, full, count-small) })
-          (ap (λ (j : ℕ). delimiter t l ∷ (ad ++ (c ∷ j ∷ (ds ++ (b ∷ []))))) full ∙ behind (delimiter t l) ad (c ∷ m ∷ ds) (b ∷ []))
-      by false e =
-          sound-on (loading t l ad c m ds) (loading t l ad c m (ds ++ (b ∷ []))) k
-          (z .0, omega (arith, z .1, longer, eqb-false (length (ds ++ (b ∷ []))) m e)) (behind (delimiter t l) ad (c ∷ m ∷ ds) (b ∷ []))
+  sound-within (loading t l ad c m ds) z k =
+      let count-small : m < 256 = bytes-right ad (c ∷ m ∷ ds) (k .1) .1 .0 in
+      one-more (λ (s : Scan). Sound (within n (loading t l ad c m ds)) b (s, none)) ds b m
+      (within n (checking (wire t l ad c (ds ++ (b ∷ []))))) (within n (loading t l ad c m (ds ++ (b ∷ [])))) (z .1)
+      (λ full. sound-on (loading t l ad c m ds) (checking (wire t l ad c (ds ++ (b ∷ [])))) k (record { addressed = z .0; counted = omega (arith, full, count-small) })
+      (ap (λ (j : ℕ). delimiter t l ∷ (ad ++ (c ∷ j ∷ (ds ++ (b ∷ []))))) full ∙ behind (delimiter t l) ad (c ∷ m ∷ ds) (b ∷ [])))
+      (λ short. sound-on (loading t l ad c m ds) (loading t l ad c m (ds ++ (b ∷ []))) k (z .0, short) (behind (delimiter t l) ad (c ∷ m ∷ ds) (b ∷ [])))
   sound-within (checking w) z k = by (eqb b (checkOf w)) refl
     where
       by : (y : Bool) → eqb b (checkOf w) ≡ y → Sound (within n (checking w)) b (hunt, some (cond y (frame n w) (badCheck n w b)))

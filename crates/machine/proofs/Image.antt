@@ -23,7 +23,7 @@ use Rattle.types.proofs.Addresses.{address-length-le}
 use Rattle.line.specs.Layout.{Wire, Fits, checkOf}
 use Rattle.line.specs.Pieces.{Bytes, Piece, noise, shortRun, frame, badCheck}
 use Rattle.line.specs.Events.{Event, silence}
-use Rattle.line.proofs.Bytes.{bytes-right}
+use Rattle.line.proofs.Bytes.{bytes-right, one-more}
 use Rattle.line.proofs.Scan.{
   Phase,
   addressing,
@@ -188,7 +188,11 @@ store-data ad ds b h k =
 stepped-address : (n : ℕ) (t : FrameType) (l : Bool) (ad : List ℕ) (b : ℕ) → length ad < addressLength l
     → stepped (real (within n (addressing t l ad))) b ≡ (real ((scan (within n (addressing t l ad)) b) .0), silence)
 unfolding stepped scan scanWithin
-stepped-address n t l ad b z = by (eqb (length (ad ++ (b ∷ []))) (addressLength l)) refl
+stepped-address n t l ad b z =
+    one-more (λ (s : Scan). stepped (real (within n (addressing t l ad))) b ≡ (real s, silence)) ad b (addressLength l)
+    (within n (commanding t l (ad ++ (b ∷ [])))) (within n (addressing t l (ad ++ (b ∷ [])))) z
+    (λ full. rw (le-ltb (length ad + 1) (addressLength l) (omega (arith, longer, full)), stored, head))
+    (λ short. rw (lt-ltb (length ad + 1) (addressLength l) (omega (arith, longer, short)), stored, head, longer))
   where
     longer : length (ad ++ (b ∷ [])) ≡ length ad + 1
     longer = length-append ad (b ∷ [])
@@ -199,21 +203,17 @@ stepped-address n t l ad b z = by (eqb (length (ad ++ (b ∷ []))) (addressLengt
     head : headOf t l (bitXor (check (delimiter t l ∷ ad)) b) ≡ headOf t l (check (delimiter t l ∷ (ad ++ (b ∷ []))))
     head = mixed-snoc t l (delimiter t l ∷ ad) b
 
-    by : (y : Bool) → eqb (length (ad ++ (b ∷ []))) (addressLength l) ≡ y
-        → stepped (real (within n (addressing t l ad))) b ≡ (real (cond y (within n (commanding t l (ad ++ (b ∷ [])))) (within n (addressing t l (ad ++ (b ∷ []))))), silence)
-    by true e =
-        rw (le-ltb (length ad + 1) (addressLength l) (omega (arith, longer, eqb-true (length (ad ++ (b ∷ []))) (addressLength l) e)), stored, head)
-    by false e =
-        rw (lt-ltb (length ad + 1) (addressLength l) (omega (arith, longer, eqb-false (length (ad ++ (b ∷ []))) (addressLength l) e)), stored, head, longer)
-
 stepped-command : (n : ℕ) (t : FrameType) (l : Bool) (ad : List ℕ) (b : ℕ) → stepped (real (within n (commanding t l ad))) b ≡ (real ((scan (within n (commanding t l ad)) b) .0), silence)
 unfolding stepped scan scanWithin
 stepped-command n t l ad b = rw (mixed-snoc t l (delimiter t l ∷ ad) b)
 
--- bytes behind the address
+-- the check with one byte more behind the address
+pub sums-behind : (d : ℕ) (ad xs : List ℕ) (b : ℕ) → bitXor (check (d ∷ (ad ++ xs))) b ≡ check (d ∷ (ad ++ (xs ++ (b ∷ []))))
+sums-behind d ad xs b = sym (check-snoc 0 (d ∷ (ad ++ xs)) b) ∙ ap (λ (ys : List ℕ). check (d ∷ ys)) (append-assoc ad xs (b ∷ []))
+
 behind : (t : FrameType) (l : Bool) (ad xs : List ℕ) (b : ℕ)
     → headOf t l (bitXor (check (delimiter t l ∷ (ad ++ xs))) b) ≡ headOf t l (check (delimiter t l ∷ (ad ++ (xs ++ (b ∷ [])))))
-behind t l ad xs b = mixed-snoc t l (delimiter t l ∷ (ad ++ xs)) b ∙ ap (λ (ys : List ℕ). headOf t l (check (delimiter t l ∷ ys))) (append-assoc ad xs (b ∷ []))
+behind t l ad xs b = ap (headOf t l) (sums-behind (delimiter t l) ad xs b)
 
 stepped-count : (n : ℕ) (t : FrameType) (l : Bool) (ad : List ℕ) (c b : ℕ) → stepped (real (within n (counting t l ad c))) b ≡ (real ((scan (within n (counting t l ad c)) b) .0), silence)
 unfolding stepped scan scanWithin
@@ -231,7 +231,13 @@ stepped-count n t l ad c b = by (eqb 0 b) refl
 stepped-data : (n : ℕ) (t : FrameType) (l : Bool) (ad : List ℕ) (c m : ℕ) (ds : List ℕ) (b : ℕ) → length ad ≡ addressLength l → length ds < m → m < 256
     → stepped (real (within n (loading t l ad c m ds))) b ≡ (real ((scan (within n (loading t l ad c m ds)) b) .0), silence)
 unfolding stepped scan scanWithin
-stepped-data n t l ad c m ds b a z small = by (eqb (length (ds ++ (b ∷ []))) m) refl
+stepped-data n t l ad c m ds b a z small =
+    one-more (λ (s : Scan). stepped (real (within n (loading t l ad c m ds))) b ≡ (real s, silence)) ds b m
+    (within n (checking (wire t l ad c (ds ++ (b ∷ []))))) (within n (loading t l ad c m (ds ++ (b ∷ [])))) z
+    (λ full. rw (le-ltb (length ds + 1) m (omega (arith, longer, full)), stored)
+    (ap (λ (h : Head). (holding (Checksum h c m) (array ad (ds ++ (b ∷ []))), silence)) head
+    ∙ ap (λ (k : ℕ). (holding (Checksum (headOf t l (check (delimiter t l ∷ (ad ++ (c ∷ k ∷ (ds ++ (b ∷ []))))))) c k) (array ad (ds ++ (b ∷ []))), silence)) (sym full)))
+    (λ short. rw (lt-ltb (length ds + 1) m (omega (arith, longer, short)), stored, head, longer))
   where
     longer : length (ds ++ (b ∷ [])) ≡ length ds + 1
     longer = length-append ds (b ∷ [])
@@ -241,15 +247,6 @@ stepped-data n t l ad c m ds b a z small = by (eqb (length (ds ++ (b ∷ []))) m
 
     head : headOf t l (bitXor (check (delimiter t l ∷ (ad ++ (c ∷ m ∷ ds)))) b) ≡ headOf t l (check (delimiter t l ∷ (ad ++ (c ∷ m ∷ (ds ++ (b ∷ []))))))
     head = behind t l ad (c ∷ m ∷ ds) b
-
-    by : (y : Bool) → eqb (length (ds ++ (b ∷ []))) m ≡ y
-        → stepped (real (within n (loading t l ad c m ds))) b ≡ (real (cond y (within n (checking (wire t l ad c (ds ++ (b ∷ []))))) (within n (loading t l ad c m (ds ++ (b ∷ []))))), silence)
-    by true e =
-        let full : length (ds ++ (b ∷ [])) ≡ m = eqb-true (length (ds ++ (b ∷ []))) m e in
-        rw (le-ltb (length ds + 1) m (omega (arith, longer, full)), stored)
-        (ap (λ (h : Head). (holding (Checksum h c m) (array ad (ds ++ (b ∷ []))), silence)) head
-        ∙ ap (λ (k : ℕ). (holding (Checksum (headOf t l (check (delimiter t l ∷ (ad ++ (c ∷ k ∷ (ds ++ (b ∷ []))))))) c k) (array ad (ds ++ (b ∷ []))), silence)) (sym full))
-    by false e = rw (lt-ltb (length ds + 1) m (omega (arith, longer, eqb-false (length (ds ++ (b ∷ []))) m e)), stored, head, longer)
 
 -- at its check byte the arrays hold the frame
 wire-back : (w : Wire) → Fits w → wireAt (headAt (w .frameType) (w .long) (checking w)) (w .command) (length (w .payload)) (array (w .address) (w .payload)) ≡ w

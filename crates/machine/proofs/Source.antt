@@ -7,7 +7,7 @@ use native.Mathlib.Numerals.{add-one}
 use mathlib.Core.Path.{_≡_, refl, sym, ap, subst, _∙_}
 use mathlib.Core.Bool.{Bool, true, false, cond}
 use mathlib.Core.Option.{Option, none, some}
-use mathlib.Core.List.{List, [], _∷_, _++_, map, append-assoc}
+use mathlib.Core.List.{List, [], _∷_, _++_, map}
 use lib.Bits.{bitXor}
 use lib.Dec.{eqb, ltb, leb}
 use lib.ListN.{length, take, replicate, length-append}
@@ -25,7 +25,7 @@ use Rattle.types.specs.Address.{addressLength}
 use Rattle.fields.proofs.Delimiters.{Right, delimiter-right}
 use Rattle.line.specs.Layout.{Wire, Fits, preambles, checkOf}
 use Rattle.line.specs.Pieces.{Piece, noise, shortRun, frame, badCheck, Bytes}
-use Rattle.line.proofs.Bytes.{bytes-left, bytes-right}
+use Rattle.line.proofs.Bytes.{bytes-left, bytes-right, one-more}
 use Rattle.line.proofs.Scan.{
   Phase,
   addressing,
@@ -81,7 +81,7 @@ use Rattle.machine.specs.Source.{
 }
 use Rattle.types.proofs.Addresses.{address-length-le}
 use Rattle.machine.proofs.Padded.{length-padded, padded-set}
-use Rattle.machine.proofs.Image.{real, follows}
+use Rattle.machine.proofs.Image.{real, sums-behind, follows}
 use Rattle.machine.proofs.SourceAddress.{address-whole-same}
 
 -- the Rust's decoder where the scanner stands
@@ -126,7 +126,11 @@ completes (comes d x) r e = e
 source-address : (n : ℕ) (t : FrameType) (l : Bool) (ad : List ℕ) (b : ℕ) → length ad < addressLength l
     → sourceFeed (sourceOf (within n (addressing t l ad))) b ≡ sourceImage (scan (within n (addressing t l ad)) b)
 unfolding sourceFeed scan scanWithin
-source-address n t l ad b z = by (eqb (length (ad ++ (b ∷ []))) (addressLength l)) refl
+source-address n t l ad b z =
+    one-more (λ (s : Scan). sourceFeed (sourceOf (within n (addressing t l ad))) b ≡ sourceImage (s, none)) ad b (addressLength l)
+    (within n (commanding t l (ad ++ (b ∷ [])))) (within n (addressing t l (ad ++ (b ∷ [])))) z
+    (λ full. rw (room, fits, le-leb (addressLength l) (length ad + 1) (omega (arith, longer, full)), padded-set 5 ad b short, sums, longer))
+    (λ more. rw (room, fits, lt-leb (addressLength l) (length ad + 1) (omega (arith, longer, more)), le-leb (length ad + 1) (addressLength l) (omega (arith, longer, more)), padded-set 5 ad b short, sums, longer))
   where
     longer : length (ad ++ (b ∷ [])) ≡ length ad + 1
     longer = length-append ad (b ∷ [])
@@ -143,23 +147,10 @@ source-address n t l ad b z = by (eqb (length (ad ++ (b ∷ []))) (addressLength
     sums : bitXor (check (delimiter t l ∷ ad)) b ≡ check (delimiter t l ∷ (ad ++ (b ∷ [])))
     sums = sym (check-snoc 0 (delimiter t l ∷ ad) b)
 
-    by : (y : Bool) → eqb (length (ad ++ (b ∷ []))) (addressLength l) ≡ y
-        → sourceFeed (sourceOf (within n (addressing t l ad))) b ≡ sourceImage (cond y (within n (commanding t l (ad ++ (b ∷ [])))) (within n (addressing t l (ad ++ (b ∷ [])))), none)
-    by true e =
-        let last : addressLength l ≤ length ad + 1 = omega (arith, longer, eqb-true (length (ad ++ (b ∷ []))) (addressLength l) e) in
-        rw (room, fits, le-leb (addressLength l) (length ad + 1) last, padded-set 5 ad b short, sums, longer)
-    by false e =
-        let more : length ad + 1 < addressLength l = omega (arith, longer, eqb-false (length (ad ++ (b ∷ []))) (addressLength l) e) in
-        rw (room, fits, lt-leb (addressLength l) (length ad + 1) more, le-leb (length ad + 1) (addressLength l) (omega arith), padded-set 5 ad b short, sums, longer)
-
 source-command : (n : ℕ) (t : FrameType) (l : Bool) (ad : List ℕ) (b : ℕ)
     → sourceFeed (sourceOf (within n (commanding t l ad))) b ≡ sourceImage (scan (within n (commanding t l ad)) b)
 unfolding sourceFeed scan scanWithin
 source-command n t l ad b = rw (sym (check-snoc 0 (delimiter t l ∷ ad) b))
-
--- the check with one byte more behind the address
-sums-behind : (d : ℕ) (ad xs : List ℕ) (b : ℕ) → bitXor (check (d ∷ (ad ++ xs))) b ≡ check (d ∷ (ad ++ (xs ++ (b ∷ []))))
-sums-behind d ad xs b = sym (check-snoc 0 (d ∷ (ad ++ xs)) b) ∙ ap (λ (ys : List ℕ). check (d ∷ ys)) (append-assoc ad xs (b ∷ []))
 
 source-count : (n : ℕ) (t : FrameType) (l : Bool) (ad : List ℕ) (c b : ℕ)
     → sourceFeed (sourceOf (within n (counting t l ad c))) b ≡ sourceImage (scan (within n (counting t l ad c)) b)
@@ -179,7 +170,11 @@ source-count n t l ad c b = by (eqb 0 b) refl
 source-data : (n : ℕ) (t : FrameType) (l : Bool) (ad : List ℕ) (c m : ℕ) (ds : List ℕ) (b : ℕ) → length ds < m → m < 256
     → sourceFeed (sourceOf (within n (loadingPhase t l ad c m ds))) b ≡ sourceImage (scan (within n (loadingPhase t l ad c m ds)) b)
 unfolding sourceFeed scan scanWithin
-source-data n t l ad c m ds b z small = by (eqb (length (ds ++ (b ∷ []))) m) refl
+source-data n t l ad c m ds b z small =
+    one-more (λ (s : Scan). sourceFeed (sourceOf (within n (loadingPhase t l ad c m ds))) b ≡ sourceImage (s, none)) ds b m
+    (within n (checking (wire t l ad c (ds ++ (b ∷ []))))) (within n (loadingPhase t l ad c m (ds ++ (b ∷ [])))) z
+    (λ full. rw (some-left, room, sums, eq-eqb (m - length ds - 1) 0 (omega (arith, longer, full)), full))
+    (λ short. rw (some-left, room, sums, ne-eqb (m - length ds - 1) 0 (omega (arith, longer, short)), left))
   where
     longer : length (ds ++ (b ∷ [])) ≡ length ds + 1
     longer = length-append ds (b ∷ [])
@@ -193,15 +188,8 @@ source-data n t l ad c m ds b z small = by (eqb (length (ds ++ (b ∷ []))) m) r
     sums : bitXor (check (delimiter t l ∷ (ad ++ (c ∷ m ∷ ds)))) b ≡ check (delimiter t l ∷ (ad ++ (c ∷ m ∷ (ds ++ (b ∷ [])))))
     sums = sums-behind (delimiter t l) ad (c ∷ m ∷ ds) b
 
-    by : (y : Bool) → eqb (length (ds ++ (b ∷ []))) m ≡ y
-        → sourceFeed (sourceOf (within n (loadingPhase t l ad c m ds))) b ≡ sourceImage (cond y (within n (checking (wire t l ad c (ds ++ (b ∷ []))))) (within n (loadingPhase t l ad c m (ds ++ (b ∷ [])))), none)
-    by true e =
-        let full : length (ds ++ (b ∷ [])) ≡ m = eqb-true (length (ds ++ (b ∷ []))) m e in
-        rw (some-left, room, sums, eq-eqb (m - length ds - 1) 0 (omega (arith, longer, full)), full)
-    by false e =
-        let other = eqb-false (length (ds ++ (b ∷ []))) m e in
-        let left : m - length ds - 1 ≡ m - length (ds ++ (b ∷ [])) = omega (arith, longer) in
-        rw (some-left, room, sums, ne-eqb (m - length ds - 1) 0 (omega (arith, longer, other)), left)
+    left : m - length ds - 1 ≡ m - length (ds ++ (b ∷ []))
+    left = omega (arith, longer)
 
 source-check : (n : ℕ) (w : Wire) (b : ℕ) → Fits w → Bytes (w .address) → sourceFeed (sourceOf (within n (checking w))) b ≡ sourceImage (hunt, some (closed n w b))
 unfolding sourceFeed
@@ -238,10 +226,11 @@ source-delimiter n b Unknown e = refl
 
 source-other : (n b : ℕ) → eqb b 0xFF ≡ false → sourceFeed (sourceOf (pre n)) b ≡ sourceImage (scan (pre n) b)
 unfolding sourceFeed scan
-source-other n b e = rw e (elim (leb 5 n) as (λ y. cond y (processDelimiter sourceNew b) (comes sourceNew okNone) ≡ sourceImage (cond y (scanEnter n b (delimiterOf b)) (hunt, some (shortRun n b)))) [
-  | true ↦ sym (delimiter-same sourceNew b) ∙ source-delimiter n b (delimiterOf b) (delimiter-right b)
-  | false ↦ refl
-])
+source-other n b e = rw e (by (leb 5 n))
+  where
+    by : (y : Bool) → cond y (processDelimiter sourceNew b) (comes sourceNew okNone) ≡ sourceImage (cond y (scanEnter n b (delimiterOf b)) (hunt, some (shortRun n b)))
+    by true = sym (delimiter-same sourceNew b) ∙ source-delimiter n b (delimiterOf b) (delimiter-right b)
+    by false = refl
 
 -- up to the 255th, the Rust counts an FF; at the next it stops
 source-count-on : (n b : ℕ) → eqb b 0xFF ≡ true → n < 255 → sourceFeed (sourceOf (pre n)) b ≡ sourceImage (scan (pre n) b)

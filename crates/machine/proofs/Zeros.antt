@@ -1,13 +1,13 @@
 -- Bytes that are all zero.
-use Prim.Native.Nat.{ℕ, zero, suc, _-_, _≤_, _<_}
+use Prim.Native.Nat.{ℕ, zero, suc, _-_, _<_}
 use native.Mathlib.Omega.{arith}
 use native.Mathlib.Nat.{zero-sub, sub-zero, suc-sub-suc}
 use mathlib.Core.Path.{_≡_, refl, sym, ap, ap₂, _∙_}
 use mathlib.Core.Bool.{Bool, true, false, _&&_, and-true, and-assoc}
 use mathlib.Core.List.{List, [], _∷_, _++_}
 use lib.Dec.{eqb}
-use lib.ListN.{length, getD, take, drop, replicate, length-take, drop-of-length-le}
-use lib.Seq.{take-suc, drop-append-le, length-take-le}
+use lib.ListN.{length, getD, take, drop, replicate}
+use lib.Seq.{take-suc}
 use borrow.Author.Tests.{eqb-true}
 use Rattle.machine.specs.Reachable.{allZero}
 
@@ -37,10 +37,6 @@ drop-zeros zero n = rw sub-zero
 drop-zeros (suc k) zero = rw zero-sub
 drop-zeros (suc k) (suc n) = rw suc-sub-suc (drop-zeros k n)
 
--- one byte more is looked at, from place n on
-pub zeros-turn : (n i : ℕ) (l : List ℕ) → n ≤ i → i < length l → allZero (drop n (take (suc i) l)) ≡ allZero (drop n (take i l)) && eqb (getD l i 0) 0
-zeros-turn n i l p h =
-    rw (take-suc l i 0 h, drop-append-le n (take i l) (getD l i 0 ∷ []) (omega (arith, length-take-le i l (omega arith))), zeros-append (drop n (take i l)) (getD l i 0 ∷ []), and-true (eqb (getD l i 0) 0))
-
-pub zeros-none : (n : ℕ) (l : List ℕ) → allZero (drop n (take n l)) ≡ true
-zeros-none n l = rw (drop-of-length-le (take n l) {i = n} (omega (arith, length-take n l)))
+-- one byte more is looked at
+pub zeros-turn : (i : ℕ) (l : List ℕ) → i < length l → allZero (take (suc i) l) ≡ allZero (take i l) && eqb (getD l i 0) 0
+zeros-turn i l h = rw (take-suc l i 0 h, zeros-append (take i l) (getD l i 0 ∷ []), and-true (eqb (getD l i 0) 0))

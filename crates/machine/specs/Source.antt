@@ -11,7 +11,7 @@ use lib.ListN.{length, getD, set, take, replicate}
 use Rattle.refusal.specs.declared.Refusal.{Refusal}
 use Rattle.refusal.specs.declared.Refusal.the-variants.{BufferTooShort, InvalidDelimiter, ChecksumMismatch}
 use Rattle.refusal.specs.Table.{numberOf, valuesOf}
-use Rattle.types.specs.Address.{Reading, reads, refused}
+use Rattle.types.specs.Address.{AddressReading, reads, refused}
 use Rattle.fields.specs.declared.delimiter.FrameType.{FrameType}
 use Rattle.fields.specs.declared.delimiter.FrameType.the-variants.{Request, Response, Burst}
 use Rattle.fields.specs.declared.first.MasterRole.{MasterRole}
@@ -98,7 +98,7 @@ sourceAddress buf false =
     (okAddress (Short (sourceMaster (getD buf 0 0)) (hasBit (getD buf 0 0) 0x40) (bitAnd (getD buf 0 0) 0x0F)) 1)
 
 -- its answer in document 01's numbers
-abbrev pub readingOf : AddressResult → Reading
+abbrev pub readingOf : AddressResult → AddressReading
 readingOf (okAddress a used) = reads a used
 readingOf (errAddress e) = refused (numberOf e) (valuesOf e)
 

@@ -34,17 +34,20 @@ going s = record { state = s; ended = Nothing }
 abbrev pub over : Ended → Moved
 over e = record { state = Hunting; ended = e }
 
+-- the first FF of a preamble, or noise
 abbrev pub hunted : ℕ → Moved
 hunted b = going (cond (eqb b 0xFF) (Preamble 1) Hunting)
 
+-- what a delimiter said, and the check so far
 abbrev pub headOf : FrameType → Bool → ℕ → Head
 headOf t long check = record { «frame_type» = t; long = long; check = check }
 
+-- the check begins with the delimiter
 abbrev pub delimited : ℕ → Delimiter → Moved
 delimited b (Known t long) = going (Address (headOf t long b) 0)
 delimited b Unknown = over (Refused (refusalOf 4 (b ∷ [])))
 
--- five FF are enough, and are not counted past
+-- five FF are enough, and are not counted past; behind fewer any other byte is passed over
 abbrev pub preambled : ℕ → ℕ → Moved
 preambled n b =
     cond (eqb b 0xFF) (going (Preamble (cond (ltb n 5) (n + 1) 5))) (cond (ltb n 5) (going Hunting) (delimited b (delimiterOf b)))
@@ -53,18 +56,23 @@ preambled n b =
 abbrev pub mixed : Head → ℕ → Head
 mixed h b = headOf (h .«frame_type») (h .long) (bitXor (h .check) b)
 
+-- address byte k: another one follows, or the command
 abbrev pub addressed : Head → ℕ → ℕ → Moved
 addressed h k b = going (cond (ltb (k + 1) (addressLength (h .long))) (Address (mixed h b) (k + 1)) (Command (mixed h b)))
 
+-- the byte count: data follow, or the check
 abbrev pub counted : Head → ℕ → ℕ → Moved
 counted h c b = going (cond (eqb b 0) (Checksum (mixed h b) c 0) (Data (mixed h b) c b 0))
 
+-- data byte n of e
 abbrev pub loaded : Head → ℕ → ℕ → ℕ → ℕ → Moved
 loaded h c e n b = going (cond (ltb (n + 1) e) (Data (mixed h b) c e (n + 1)) (Checksum (mixed h b) c e))
 
+-- the check byte ends the piece
 abbrev pub checked : Head → ℕ → ℕ → ℕ → Moved
 checked h c e b = over (cond (eqb b (h .check)) (Frame h c e) (Refused (refusalOf 5 (h .check ∷ b ∷ []))))
 
+-- the state behind a byte, and what ended with it
 abbrev pub movedAt : State → ℕ → Moved
 movedAt Hunting b = hunted b
 movedAt (Preamble n) b = preambled n b

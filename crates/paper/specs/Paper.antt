@@ -1,4 +1,5 @@
--- Document 01, 'Examples': those marked (P), as one list: packed text, what a decoder reads and what the encoder writes. Each has what the definitions make of it and what document 01 says.
+-- Document 01, 'Examples': those marked (P), as one list: packed text, what a decoder reads and what the encoder writes. Each has what the
+-- definitions make of it and what document 01 says.
 use Prim.Native.Nat.{ℕ}
 use mathlib.Core.Bool.{false}
 use mathlib.Core.List.{List, [], _∷_, _++_}
@@ -45,7 +46,7 @@ long-address = Long Primary false 0x26 0x0A 0x010203
 abbrev long-bytes : List ℕ
 long-bytes = 0x82 ∷ 0xA6 ∷ 0x0A ∷ 0x01 ∷ 0x02 ∷ 0x03 ∷ 0x09 ∷ 0x02 ∷ 0x00 ∷ 0x01 ∷ 0x24 ∷ []
 
--- the shortest request: primary, polling 0, command 0, no data
+-- the shortest request, from the primary master to polling address 0: command 0 without data
 abbrev short-address : Address
 short-address = Short Primary false 0
 

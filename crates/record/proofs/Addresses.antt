@@ -18,7 +18,7 @@ low-only Primary true low = omega arith
 low-only Secondary false low = omega arith
 low-only Secondary true low = omega arith
 
--- bits 5 and 4 of a short address are zero, whatever the line sent in them
+-- in a record the two bits above a polling address are clear, though a line may set them
 pub short-bits-clear : (w : Wire) → w .long ≡ false → getD (frameRecord w) 1 0 / 16 % 4 ≡ 0
 unfolding addressBytes
 short-bits-clear w e =

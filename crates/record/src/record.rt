@@ -1,10 +1,10 @@
 // What a piece that is over leaves in the room for records.
-use crate::copy::copy;
 use block_header::long_bit;
 use machine::ADDRESS_ROOM;
 use machine::Ended;
 use machine::Head;
 use machine::ROOM;
+use octets::copy_into;
 use refusal::Refusal;
 use types::Address;
 use types::address_length;
@@ -42,9 +42,9 @@ fn write_frame(head: Head, command: u8, count: u8, bytes: &[u8], room: &mut [u8]
     room[next] = command;
     room[next + 1] = count;
     let at = next + 2;
-    let end = count as usize;
-    copy(&bytes[ADDRESS_ROOM..], end, room, at);
-    (at + end) as u32
+    let to = ADDRESS_ROOM + count as usize;
+    copy_into(&bytes[ADDRESS_ROOM..to], room, at);
+    (at + count as usize) as u32
 }
 
 // The record of a refusal. The line's bytes are refused with 4 and 5 alone.

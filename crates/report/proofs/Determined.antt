@@ -3,15 +3,7 @@ use mathlib.Core.Path.{_≡_, refl, sym}
 use mathlib.Core.Bool.{Bool, true, false}
 use Rattle.refusal.specs.Determined.{Determined}
 use Rattle.refusal.proofs.Known.{agree-alone}
-use Rattle.report.specs.Answers.{Tells}
-use Rattle.report.proofs.count.Kinds as count-kinds
-use Rattle.report.proofs.count.Reads as count-reads
-use Rattle.report.proofs.refused.Kinds as refused-kinds
-use Rattle.report.proofs.refused.Reads as refused-reads
-use Rattle.report.proofs.refused_by.Kinds as refused-by-kinds
-use Rattle.report.proofs.refused_by.Reads as refused-by-reads
-use Rattle.report.proofs.answer_of.Kinds as answer-of-kinds
-use Rattle.report.proofs.answer_of.Reads as answer-of-reads
+use Rattle.report.specs.Tells.{Tells}
 use Rattle.report.proofs.print.Kinds as print-kinds
 use Rattle.report.proofs.print.Reads as print-reads
 use Rattle.report.proofs.print_number.Kinds as print-number-kinds
@@ -20,8 +12,6 @@ use Rattle.report.proofs.print_bytes.Kinds as print-bytes-kinds
 use Rattle.report.proofs.print_bytes.Reads as print-bytes-reads
 use Rattle.report.proofs.print_answer.Kinds as print-answer-kinds
 use Rattle.report.proofs.print_answer.Reads as print-answer-reads
-use Rattle.report.proofs.same_answer.Kinds as same-answer-kinds
-use Rattle.report.proofs.same_answer.Reads as same-answer-reads
 use Rattle.report.proofs.answered.Kinds as answered-kinds
 use Rattle.report.proofs.answered.Reads as answered-reads
 use Rattle.report.proofs.came_out.Kinds as came-out-kinds
@@ -43,18 +33,6 @@ tells-known true t h k = sym (k .1 (h .0 refl))
 tells-known false true h k = h .1 (k .0 refl)
 tells-known false false h k = refl
 
-pub count : Determined 0 count-kinds.ps count-kinds.r count-reads.Post (λ κs x. tt {0})
-count κs a r s x y = agree-alone
-
-pub refused : Determined 0 refused-kinds.ps refused-kinds.r refused-reads.Post (λ κs x. tt {0})
-refused κs a r s x y = agree-alone
-
-pub refused-by : Determined 0 refused-by-kinds.ps refused-by-kinds.r refused-by-reads.Post (λ κs x. tt {0})
-refused-by κs a r s x y = agree-alone
-
-pub answer-of : Determined 0 answer-of-kinds.ps answer-of-kinds.r answer-of-reads.Post (λ κs x. tt {0})
-answer-of κs a r s x y = agree-alone
-
 pub print : Determined 1 print-kinds.ps print-kinds.r print-reads.Post (λ κs x. tt {0})
 print κs a r s x y = agree-alone
 
@@ -66,9 +44,6 @@ print-bytes κs a r s x y = agree-alone
 
 pub print-answer : Determined 0 print-answer-kinds.ps print-answer-kinds.r print-answer-reads.Post (λ κs x. tt {0})
 print-answer κs a r s x y = agree-alone
-
-pub same-answer : Determined 0 same-answer-kinds.ps same-answer-kinds.r same-answer-reads.Post (λ κs x. tt {0})
-same-answer κs a r s x y = agree-alone
 
 pub answered : Determined 0 answered-kinds.ps answered-kinds.r answered-reads.Post (λ κs x. tt {0})
 answered κs a r s x y = agree-alone

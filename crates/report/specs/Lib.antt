@@ -1,2 +1,2 @@
--- What a call's answer is reported as, and when it came out as wanted.
-pub mod Answers
+-- When a comparison is right.
+pub mod Tells

@@ -1,78 +1,22 @@
 // What the programs of examples print, and how they compare. No contract can say what is printed: a
-// function that does nothing else promises to come back with nothing, and the others what they tell.
+// function that does nothing else promises to come back with nothing, and the others what they tell. The
+// answers themselves are handed on from `answers`.
 mod frames;
 
+pub use answers::Answer;
+pub use answers::answer_of;
+pub use answers::count;
+pub use answers::refused;
+pub use answers::refused_by;
+pub use answers::same_answer;
 pub use frames::print_address;
 pub use frames::print_frame;
 pub use frames::print_frame_type;
 use libc::STDOUT_FILENO;
-use refusal::Refusal;
-use refusal::Written;
 ghost use mathlib.Core.Path.{_≡_};
 ghost use mathlib.Core.Bool.{true};
-ghost use lib.ListN.{getD};
-ghost use Rattle.refusal.specs.Table.{valuesOf};
-ghost use Rattle.report.specs.Answers.{refusedBy, answerOf, sameAnswer, Tells};
-
-// A call's answer in document 01's numbers: 0 and a count, or a refusal's number and the first value
-// that it carries.
-pub struct Answer {
-    pub number: u32,
-    pub value: usize,
-}
-
-fn first_value(refusal: Refusal) -> usize
-    ensures { λ r. ⌜ r ≡ getD (valuesOf refusal) 0 0 ⌝ }
-{
-    match refusal {
-        Refusal::DataTooLong => 0,
-        Refusal::BufferTooSmall => 0,
-        Refusal::BufferTooShort => 0,
-        Refusal::InvalidDelimiter(byte) => byte as usize,
-        Refusal::ChecksumMismatch {
-            expected,
-            actual: _,
-        } => expected as usize,
-        Refusal::WrongFrame => 0,
-        Refusal::BadCharacter(place) => place,
-        Refusal::BadState => 0,
-        Refusal::CommError(byte) => byte as usize,
-        Refusal::ResponseCode(code) => code as usize,
-    }
-}
-
-pub fn count(n: usize) -> Answer
-    ensures { λ r. ⌜ r ≡ record { number = 0; value = n } ⌝ }
-{
-    Answer {
-        number: 0,
-        value: n,
-    }
-}
-
-pub fn refused(number: u32, value: usize) -> Answer
-    ensures { λ r. ⌜ r ≡ record { number = number; value = value } ⌝ }
-{
-    Answer { number, value }
-}
-
-pub fn refused_by(refusal: Refusal) -> Answer
-    ensures { λ r. ⌜ r ≡ refusedBy refusal ⌝ }
-{
-    Answer {
-        number: refusal.number(),
-        value: first_value(refusal),
-    }
-}
-
-pub fn answer_of(written: Written) -> Answer
-    ensures { λ r. ⌜ r ≡ answerOf written ⌝ }
-{
-    match written {
-        Written::Count(n) => count(n),
-        Written::Refused(r) => refused_by(r),
-    }
-}
+ghost use Rattle.answers.specs.Answers.{sameAnswer};
+ghost use Rattle.report.specs.Tells.{Tells};
 
 pub fn print(text: &[u8])
     ensures { λ r. ⌜ r ≡ tt {0} ⌝ }
@@ -127,12 +71,6 @@ pub fn print_answer(answer: Answer)
         print(b" with ");
         print_number(answer.value);
     }
-}
-
-pub fn same_answer(a: Answer, b: Answer) -> bool
-    ensures { λ r. ⌜ r ≡ sameAnswer a b ⌝ }
-{
-    (a.number == b.number) & (a.value == b.value)
 }
 
 // Whether the answer is the wanted one, and what it is.

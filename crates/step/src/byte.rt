@@ -14,16 +14,7 @@ use types::read_delimiter;
 ghost use mathlib.Core.Path.{_≡_};
 ghost use lib.ListN.{set};
 ghost use Rattle.fields.specs.Delimiter.{delimiterOf};
-ghost use Rattle.machine.specs.Step.{going, over, hunted, preambled, delimited, mixed, addressed, counted, loaded, checked, movedAt, storedAt};
-
-fn going_on(state: State) -> Moved
-    ensures { λ r. ⌜ r ≡ going state ⌝ }
-{
-    Moved {
-        state,
-        ended: Ended::Nothing,
-    }
-}
+ghost use Rattle.machine.specs.Step.{over, hunted, preambled, delimited, mixed, addressed, counted, loaded, checked, movedAt, storedAt};
 
 fn piece_over(ended: Ended) -> Moved
     ensures { λ r. ⌜ r ≡ over ended ⌝ }
@@ -38,9 +29,15 @@ fn hunting(byte: u8) -> Moved
     ensures { λ r. ⌜ r ≡ hunted byte ⌝ }
 {
     if byte == PREAMBLE_BYTE {
-        return going_on(State::Preamble(1));
+        return Moved {
+            state: State::Preamble(1),
+            ended: Ended::Nothing,
+        };
     }
-    going_on(State::Hunting)
+    Moved {
+        state: State::Hunting,
+        ended: Ended::Nothing,
+    }
 }
 
 fn process_delimiter(byte: u8) -> Moved
@@ -56,7 +53,10 @@ fn process_delimiter(byte: u8) -> Moved
                 long: is_long,
                 check: byte,
             };
-            going_on(State::Address { head, received: 0 })
+            Moved {
+                state: State::Address { head, received: 0 },
+                ended: Ended::Nothing,
+            }
         }
         Delimiter::Unknown => piece_over(Ended::Refused(Refusal::InvalidDelimiter(byte))),
     }
@@ -68,12 +68,21 @@ fn preamble(count: u8, byte: u8) -> Moved
 {
     if byte == PREAMBLE_BYTE {
         if count < MIN_PREAMBLE_COUNT {
-            return going_on(State::Preamble(count + 1));
+            return Moved {
+                state: State::Preamble(count + 1),
+                ended: Ended::Nothing,
+            };
         }
-        return going_on(State::Preamble(MIN_PREAMBLE_COUNT));
+        return Moved {
+            state: State::Preamble(MIN_PREAMBLE_COUNT),
+            ended: Ended::Nothing,
+        };
     }
     if count < MIN_PREAMBLE_COUNT {
-        return going_on(State::Hunting);
+        return Moved {
+            state: State::Hunting,
+            ended: Ended::Nothing,
+        };
     }
     process_delimiter(byte)
 }
@@ -82,9 +91,12 @@ fn preamble(count: u8, byte: u8) -> Moved
 fn mix(head: Head, byte: u8) -> Head
     ensures { λ r. ⌜ r ≡ mixed head byte ⌝ }
 {
-    let mut next = head;
-    next.check = head.check ^ byte;
-    next
+    let frame_type = head.frame_type;
+    Head {
+        frame_type,
+        long: head.long,
+        check: head.check ^ byte,
+    }
 }
 
 fn address(head: Head, received: u8, byte: u8) -> Moved
@@ -92,12 +104,18 @@ fn address(head: Head, received: u8, byte: u8) -> Moved
 {
     let mixed = mix(head, byte);
     if received < address_length(head.long) - 1 {
-        return going_on(State::Address {
-            head: mixed,
-            received: received + 1,
-        });
+        return Moved {
+            state: State::Address {
+                head: mixed,
+                received: received + 1,
+            },
+            ended: Ended::Nothing,
+        };
     }
-    going_on(State::Command { head: mixed })
+    Moved {
+        state: State::Command { head: mixed },
+        ended: Ended::Nothing,
+    }
 }
 
 fn byte_count(head: Head, command: u8, byte: u8) -> Moved
@@ -105,18 +123,24 @@ fn byte_count(head: Head, command: u8, byte: u8) -> Moved
 {
     let mixed = mix(head, byte);
     if byte == 0 {
-        return going_on(State::Checksum {
+        return Moved {
+            state: State::Checksum {
+                head: mixed,
+                command,
+                expected: 0,
+            },
+            ended: Ended::Nothing,
+        };
+    }
+    Moved {
+        state: State::Data {
             head: mixed,
             command,
-            expected: 0,
-        });
+            expected: byte,
+            received: 0,
+        },
+        ended: Ended::Nothing,
     }
-    going_on(State::Data {
-        head: mixed,
-        command,
-        expected: byte,
-        received: 0,
-    })
 }
 
 fn data(head: Head, command: u8, expected: u8, received: u8, byte: u8) -> Moved
@@ -124,18 +148,24 @@ fn data(head: Head, command: u8, expected: u8, received: u8, byte: u8) -> Moved
 {
     let mixed = mix(head, byte);
     if received as usize + 1 < expected as usize {
-        return going_on(State::Data {
+        return Moved {
+            state: State::Data {
+                head: mixed,
+                command,
+                expected,
+                received: received + 1,
+            },
+            ended: Ended::Nothing,
+        };
+    }
+    Moved {
+        state: State::Checksum {
             head: mixed,
             command,
             expected,
-            received: received + 1,
-        });
+        },
+        ended: Ended::Nothing,
     }
-    going_on(State::Checksum {
-        head: mixed,
-        command,
-        expected,
-    })
 }
 
 fn checksum(head: Head, command: u8, expected: u8, byte: u8) -> Moved
@@ -177,10 +207,13 @@ pub fn step(state: State, bytes: &mut [u8], byte: u8) -> Moved
             keep(bytes, received as usize, byte);
             address(head, received, byte)
         }
-        State::Command { head } => going_on(State::ByteCount {
-            head: mix(head, byte),
-            command: byte,
-        }),
+        State::Command { head } => Moved {
+            state: State::ByteCount {
+                head: mix(head, byte),
+                command: byte,
+            },
+            ended: Ended::Nothing,
+        },
         State::ByteCount { head, command } => byte_count(head, command, byte),
         State::Data {
             head,

@@ -10,10 +10,17 @@ use types::address_length;
 use types::consts::MIN_PREAMBLE_COUNT;
 use types::delimiter_byte;
 ghost use mathlib.Core.Path.{_≡_};
+ghost use mathlib.Core.Bool.{true};
 ghost use Prim.Native.Nat.{_≤_};
 ghost use lib.ListN.{length, drop};
 ghost use Rattle.machine.specs.Room.{addressRoom, room};
-ghost use Rattle.machine.specs.Reachable.{claim, noClaim, claimOf, allZero, isRight, reachableAt};
+ghost use Rattle.machine.specs.Reachable.{claim, noClaim, claimOf, allZero, isClear, isRight, reachableAt};
+
+// So many bytes at a time: a multiple of what vector registers hold.
+const STRIDE: usize = 64;
+
+// The 260 bytes are four strides and these.
+const ODD: usize = ROOM - 4 * STRIDE;
 
 fn no_claim(possible: bool) -> Claim
     ensures { λ r. ⌜ r ≡ noClaim possible ⌝ }
@@ -83,13 +90,12 @@ fn claim_of(state: State) -> Claim
     }
 }
 
-// Whether all is zero from place n on. No byte ends the loop early, so that the compiler can take many at
-// a time.
-fn is_zero_from(bytes: &[u8], n: u8) -> bool
-    ensures { λ r. ⌜ r ≡ allZero (drop n (now (bytes .entry))) ⌝ }
+// Whether all is zero. No byte ends the loop early, so that the compiler can take many at a time.
+fn is_zero(bytes: &[u8]) -> bool
+    ensures { λ r. ⌜ r ≡ allZero (now (bytes .entry)) ⌝ }
 {
     let mut zero = true;
-    let mut i = n as usize;
+    let mut i = 0;
     while i < bytes.len() {
         zero = zero & (bytes[i] == 0);
         i += 1;
@@ -97,17 +103,34 @@ fn is_zero_from(bytes: &[u8], n: u8) -> bool
     zero
 }
 
-// Whether the check is that of the bytes that were read.
+// Whether all is zero from a place on: a stride from there, and whole strides up to the end. A byte that
+// is in both is looked at twice, and no odd bytes are left, which would be taken one by one.
+fn is_zero_from(bytes: &[u8], from: usize) -> bool
+    requires { ⌜ from ≤ length (now bytes) ⌝ }
+    ensures { λ r. ⌜ r ≡ allZero (drop from (now (bytes .entry))) ⌝ }
+{
+    let unread = bytes.len() - from;
+    if unread < STRIDE {
+        return is_zero(&bytes[from..]);
+    }
+    let next = from + STRIDE;
+    let whole = bytes.len() - unread / STRIDE * STRIDE;
+    let first = is_zero(&bytes[from..next]);
+    let rest = is_zero(&bytes[whole..]);
+    first & rest
+}
+
+// Whether the check is that of the bytes that were read, if none stands past them. Zeros do not change a
+// check, nor does the order, so that command and count come first and whole strides are mixed: behind the
+// four odd bytes in front there is place for them.
 fn is_right(claim: Claim, bytes: &[u8]) -> bool
     requires { ⌜ (claim .address ≤ addressRoom) × (length (now bytes) ≡ room) ⌝ }
-    ensures { λ r. ⌜ r ≡ isRight claim (now (bytes .entry)) ⌝ }
+    ensures { λ r. ⌜ (isClear claim (now (bytes .entry)) ≡ true → r ≡ isRight claim (now (bytes .entry))) ⌝ }
 {
-    let address_end = claim.address as usize;
-    let data_end = ADDRESS_ROOM + claim.loaded as usize;
-    let addressed = checksum_from(claim.start, &bytes[..address_end]);
-    let counted = addressed ^ claim.command ^ claim.count;
-    let loaded = checksum_from(counted, &bytes[ADDRESS_ROOM..data_end]);
-    claim.check == loaded
+    let start = claim.start ^ claim.command ^ claim.count;
+    let end = ODD + (claim.loaded as usize / STRIDE + 1) * STRIDE;
+    let odd = checksum_from(start, &bytes[..ODD]);
+    claim.check == checksum_from(odd, &bytes[ODD..end])
 }
 
 pub fn is_reachable(state: State, bytes: &[u8]) -> bool
@@ -118,8 +141,9 @@ pub fn is_reachable(state: State, bytes: &[u8]) -> bool
     }
     let claim = claim_of(state);
     if claim.possible {
-        let address_clear = is_zero_from(&bytes[..ADDRESS_ROOM], claim.address);
-        let data_clear = is_zero_from(&bytes[ADDRESS_ROOM..], claim.loaded);
+        let address = claim.address as usize;
+        let address_clear = is_zero(&bytes[address..ADDRESS_ROOM]);
+        let data_clear = is_zero_from(bytes, ADDRESS_ROOM + claim.loaded as usize);
         let right = is_right(claim, bytes);
         return address_clear & data_clear & right;
     }

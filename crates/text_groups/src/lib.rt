@@ -1,5 +1,6 @@
 // Groups of packed text in either mode (packed_string.rs), at their places in a lent buffer. Nothing is
 // refused here: as many whole groups are written as there are and fit.
+use octets::copy_into;
 use text_group::Mode;
 use text_group::packed_group;
 use text_group::unpacked_group;
@@ -56,17 +57,6 @@ fn unpacked_at(mode: Mode, src: &[u8], g: usize) -> [u8; 4]
     unpacked_group(mode, src[base], src[base + 1], src[base + 2])
 }
 
-fn write_group(group: &[u8], dst: &mut [u8], at: usize)
-    requires { ⌜ at + length (now group) ≤ length (now dst) ⌝ }
-    ensures { λ _. ⌜ now (dst .exit) ≡ put (now (dst .entry)) at (now (group .entry)) ⌝ }
-{
-    let mut i = 0;
-    while i < group.len() {
-        dst[at + i] = group[i];
-        i += 1;
-    }
-}
-
 // Packs as many whole groups of the text as fit and tells how many.
 pub fn pack(mode: Mode, src: &[u8], dst: &mut [u8]) -> usize
     ensures { λ r. ⌜ (r ≡ packedCount (now (src .entry)) (now (dst .entry))) × (now (dst .exit) ≡ put (now (dst .entry)) 0 (packed mode (now (src .entry)) (packedCount (now (src .entry)) (now (dst .entry))))) ⌝ }
@@ -75,7 +65,7 @@ pub fn pack(mode: Mode, src: &[u8], dst: &mut [u8]) -> usize
     let mut g = 0;
     while g < n_groups {
         let group = packed_at(mode, src, g);
-        write_group(&group, dst, g * 3);
+        copy_into(&group, dst, g * 3);
         g += 1;
     }
     n_groups
@@ -89,7 +79,7 @@ pub fn unpack(mode: Mode, src: &[u8], dst: &mut [u8]) -> usize
     let mut g = 0;
     while g < n_groups {
         let group = unpacked_at(mode, src, g);
-        write_group(&group, dst, g * 4);
+        copy_into(&group, dst, g * 4);
         g += 1;
     }
     n_groups

@@ -37,16 +37,16 @@ isLong (Short master burst polling) = false
 isLong (Long master burst manufacturer device number) = true
 
 -- what reading an address comes to: the address and the bytes it took, or a refusal's number and values
-pub data Reading : Type 0 where
-  reads : Address → ℕ → Reading
-  refused : ℕ → List ℕ → Reading
+pub data AddressReading : Type 0 where
+  reads : Address → ℕ → AddressReading
+  refused : ℕ → List ℕ → AddressReading
 
-abbrev pub readOf : AddressRead → Reading
+abbrev pub readOf : AddressRead → AddressReading
 readOf (Read address used) = reads address used
 readOf (Refused r) = refused (numberOf r) (valuesOf r)
 
 -- 3 if there are fewer bytes than the address has; bytes past it are ignored
-abbrev pub decoded : Bool → List ℕ → Reading
+abbrev pub decoded : Bool → List ℕ → AddressReading
 decoded long bs = cond (ltb (length bs) (addressLength long)) (refused 3 []) (reads (readAddress long bs) (addressLength long))
 
 -- the two bits over a field of the lower ones

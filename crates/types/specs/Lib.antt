@@ -1,2 +1,2 @@
--- What the parts of a frame are.
+-- What an address says, read and written.
 pub mod Address

@@ -7,8 +7,8 @@ use mathlib.Core.List.{List}
 use lib.ListN.{length, take, getD, set, length-set}
 use lib.Seq.{take-suc, take-all, length-take-le}
 use Rattle.octets.specs.Put.{put}
-use Rattle.octets.proofs.Put.{put-nil}
-use Rattle.dump_text.proofs.Words.{marked, put-two}
+use Rattle.octets.proofs.Put.{put-nil, put-two}
+use Rattle.dump_text.proofs.Words.{marked}
 use Rattle.figures.specs.Figures.{hexDigit, hex}
 use Rattle.figures.proofs.Figures.{length-hex, hex-append}
 use Rattle.dump_text.proofs.write_hex.Statement.{statement}

@@ -4,8 +4,7 @@ use native.Mathlib.Omega.{arith}
 use mathlib.Core.Path.{sym, ap, _∙_}
 use mathlib.Core.List.{List, []}
 use lib.ListN.{set}
-use Rattle.octets.proofs.Put.{put-nil}
-use Rattle.dump_text.proofs.Words.{put-two}
+use Rattle.octets.proofs.Put.{put-nil, put-two}
 use borrow.Author.Needs.{needs}
 use Rattle.dump_text.proofs.write_letter.Statement.{statement}
 use Rattle.dump_text.proofs.write_letter.Tie as tie

@@ -2,7 +2,7 @@
 use mathlib.Core.Path.{_≡_, sym, _∙_}
 use mathlib.Core.Bool.{Bool, true, false, false≢true, _&&_}
 use borrow.Author.Needs.{needs}
-use Rattle.report.specs.Answers.{Tells}
+use Rattle.report.specs.Tells.{Tells}
 use Rattle.report.proofs.came_out.Statement.{statement}
 use Rattle.report.proofs.came_out.Tie as tie
 

@@ -1,7 +1,7 @@
 -- The loop's invariant: the first g groups stand unpacked at the front of the buffer.
 use Prim.Native.Nat.{_-_, _≤_}
 use native.Mathlib.Omega.{arith}
-use mathlib.Core.Path.{_≡_, refl, ap, _∙_}
+use mathlib.Core.Path.{_≡_, refl, _∙_}
 use lib.ListN.{length}
 use borrow.Author.Needs.{needs}
 use Rattle.octets.specs.Put.{put}
@@ -27,18 +27,14 @@ loop-holds c =
 unpacked-at-requires : tie.Need-unpacked-at-requires Inv-loop μ-loop
 unpacked-at-requires c κs = omega arith
 
-slice-aggregate-write-group : tie.Need-slice-aggregate-write-group Inv-loop μ-loop
-slice-aggregate-write-group c = search needs
+slice-aggregate-copy-into : tie.Need-slice-aggregate-copy-into Inv-loop μ-loop
+slice-aggregate-copy-into c = search needs
 
-mul-write-group : tie.Need-mul-write-group Inv-loop μ-loop
-mul-write-group c = omega arith
+mul-copy-into : tie.Need-mul-copy-into Inv-loop μ-loop
+mul-copy-into c = omega arith
 
-write-group-requires : tie.Need-write-group-requires Inv-loop μ-loop
-write-group-requires c κs =
-    let l = c .before .before .before .before in
-    let a = l .before .before .before .before .args in
-    let p = c .before .before .unpacked-at in
-    let size : length (p .result) ≡ 4 = ap length (p .ensures) ∙ unpacked-sized (a .mode) (a .src .now) (l .loop .g) in omega arith
+copy-into-requires : tie.Need-copy-into-requires Inv-loop μ-loop
+copy-into-requires c κs = search needs
 
 add-g : tie.Need-add-g Inv-loop μ-loop
 add-g c = omega arith
@@ -52,7 +48,7 @@ loop-again c =
     let a = l .before .before .before .before .args in
     let m = a .mode in
     let s = a .src .now in
-    let w = c .before .before .write-group in (
+    let w = c .before .before .copy-into in (
       omega arith,
       group-turn (unpackedGroup m s) 4 (unpacked-sized m s) (a .dst .now) (l .loop .g) (l .loop .inv .1) (c .before .before .before .before .before .unpacked-at .ensures) (w .ensures) (omega arith),
       w .kept .1 .0 ∙ l .loop .inv .2,
@@ -76,9 +72,9 @@ unpack-spec =
     least-requires
     loop-holds
     unpacked-at-requires
-    slice-aggregate-write-group
-    mul-write-group
-    write-group-requires
+    slice-aggregate-copy-into
+    mul-copy-into
+    copy-into-requires
     add-g
     loop-less
     loop-again

@@ -1,75 +1,47 @@
--- `data_of` meets its contract.
-use Prim.Native.Nat.{ℕ, _+_, _-_, _≤_}
+-- The bytes are copied into zeros, to whose front they go.
+use Prim.Native.Nat.{ℕ, _+_, _-_}
 use native.Mathlib.Omega.{arith}
-use native.Mathlib.Numerals.{add-one}
-use mathlib.Core.Path.{_≡_, ap, sym, _∙_}
-use mathlib.Core.List.{List, [], _∷_, _++_}
-use lib.ListN.{length, getD, set, take, drop, replicate, length-drop}
-use lib.Seq.{take-suc, getD-drop, length-take-le}
+use mathlib.Core.Path.{_≡_, ap, _∙_}
+use mathlib.Core.List.{List, _++_}
+use lib.ListN.{length, take, drop, replicate, length-take}
 use borrow.Author.Needs.{needs}
-use Rattle.octets.specs.Put.{put}
-use Rattle.octets.proofs.Put.{put-nil, put-front, put-snoc}
+use Rattle.octets.specs.Put.{putIfFits}
+use Rattle.octets.proofs.Put.{put-fitting, put-front}
 use Rattle.machine.proofs.Zeros.{drop-zeros}
 use Rattle.framing.proofs.frame.data_of.Statement.{statement}
 use Rattle.framing.proofs.frame.data_of.Tie as tie
 
-abbrev Inv-loop : tie.InvT-loop
-Inv-loop bytes n data₀ end i₀ «data» i = (i ≤ n) × («data» ≡ put (replicate 255 0) 0 (take i (drop 5 bytes)))
+add-to : tie.Need-add-to
+add-to c = search needs
 
-abbrev μ-loop : tie.MeasureT-loop
-μ-loop bytes n data₀ end i₀ «data» i = n - i
+sub-copy-into : tie.Need-sub-copy-into
+sub-copy-into c = search needs
 
-loop-holds : tie.Need-loop-holds Inv-loop μ-loop
-loop-holds c = (omega arith, sym (put-nil (replicate 255 0) 0))
+part-copy-into-start : tie.Need-part-copy-into-start
+part-copy-into-start c = search needs
 
-add-data : tie.Need-add-data Inv-loop μ-loop
-add-data c = search needs
+part-copy-into-end : tie.Need-part-copy-into-end
+part-copy-into-end c = search needs
 
-shared-slice-read-data : tie.Need-shared-slice-read-data Inv-loop μ-loop
-shared-slice-read-data c = search needs
+slice-aggregate-copy-into : tie.Need-slice-aggregate-copy-into
+slice-aggregate-copy-into c = search needs
 
-array-write-data : tie.Need-array-write-data Inv-loop μ-loop
-array-write-data c = search needs
+copy-into-requires : tie.Need-copy-into-requires
+copy-into-requires c κs = search needs
 
-add-i : tie.Need-add-i Inv-loop μ-loop
-add-i c = search needs
-
-loop-less : tie.Need-loop-less Inv-loop μ-loop
-loop-less c = omega arith
-
-loop-again : tie.Need-loop-again Inv-loop μ-loop
-loop-again c =
-    let l = c .before .before .loop in
-    let bs = c .before .before .before .args .bytes .now in
-    let ds = drop 5 bs in
-    let k : length ds ≡ 255 = length-drop 5 bs ∙ omega arith in (
-      omega arith,
-      rw add-one
-          (ap (λ (r : List ℕ). set r (l .i) (getD bs (5 + l .i) 0)) (l .inv .1)
-          ∙ put-snoc (replicate 255 0) 0 (take (l .i) ds) (getD bs (5 + l .i) 0) (l .i) (omega arith) (omega (arith, length-take-le (l .i) ds (omega arith)))
-          ∙ ap (put (replicate 255 0) 0) (sym (take-suc ds (l .i) 0 (omega arith) ∙ ap (λ (v : ℕ). take (l .i) ds ++ (v ∷ [])) (getD-drop 5 bs (l .i) 0)))),
-    )
-
-returns : tie.Need-returns Inv-loop μ-loop
+returns : tie.Need-returns
 returns c =
-    let bs = c .before .before .args .bytes .now in
-    let n = c .before .before .args .n in
-    let ds = drop 5 bs in
-    let k : length ds ≡ 255 = length-drop 5 bs ∙ omega arith in
-    let e : c .before .loop .i ≡ n = omega arith in
-    rw e at (c .before .loop .inv .1) ∙ put-front (replicate 255 0) (take n ds) ∙ ap (λ (z : List ℕ). take n ds ++ z) (drop-zeros (length (take n ds)) 255)
+    let a = c .before .before .before .before .before .args in
+    let behind = drop 5 (a .bytes .now) in
+    let ds = take (a .n) behind in
+    let zeros : List ℕ = replicate 255 0 in
+    let count : 5 + a .n - 5 ≡ a .n = omega arith in
+    c .before .copy-into .ensures
+    ∙ ap (λ (k : ℕ). putIfFits zeros 0 (take k behind)) count
+    ∙ put-fitting zeros 0 ds (omega (arith, length-take (a .n) behind))
+    ∙ put-front zeros ds
+    ∙ ap (λ (z : List ℕ). ds ++ z) (drop-zeros (length ds) 255)
 
 pub data-of-spec : {M : Type 1} → statement M
 data-of-spec =
-    tie.close
-    (tie.spec
-    Inv-loop
-    μ-loop
-    loop-holds
-    add-data
-    shared-slice-read-data
-    array-write-data
-    add-i
-    loop-less
-    loop-again
-    returns)
+    tie.close (tie.spec add-to sub-copy-into part-copy-into-start part-copy-into-end slice-aggregate-copy-into copy-into-requires returns)

@@ -1,12 +1,12 @@
 -- `write_frame` meets its contract.
 use Prim.Native.Nat.{ℕ, _+_, _*_, _-_, _≤_}
 use native.Mathlib.Omega.{arith}
-use mathlib.Core.Path.{_≡_, refl, ap, _∙_}
+use mathlib.Core.Path.{_≡_, refl, sym, ap, ap₂, _∙_}
 use mathlib.Core.List.{List, [], _∷_, _++_, append-assoc}
 use lib.ListN.{length, set, take, drop, length-append, length-set, length-drop}
-use lib.Seq.{length-take-le, take-all}
-use Rattle.octets.specs.Put.{put}
-use Rattle.octets.proofs.Put.{put-put, put-snoc, set-is-put}
+use lib.Seq.{length-take-le}
+use Rattle.octets.specs.Put.{put, putIfFits}
+use Rattle.octets.proofs.Put.{put-nil, length-put, put-put, put-fitting, put-head}
 use Rattle.types.specs.Address.{addressLength, isLong, addressBytes, readAddress}
 use Rattle.types.proofs.Addresses.{address-length-le, length-address, address-taken, long-read}
 use Rattle.fields.specs.Delimiter.{typeNumber}
@@ -18,23 +18,18 @@ use borrow.Author.Needs.{needs}
 use Rattle.record.proofs.record.write_frame.Statement.{statement}
 use Rattle.record.proofs.record.write_frame.Tie as tie
 
--- first byte, address, command and count, each stored behind the other, and then the data
-record-made : (first command count : ℕ) (ab ds l : List ℕ) {w r es : List ℕ} (next : ℕ) → w ≡ put (set l 0 first) 1 ab → next ≡ 1 + length ab → r ≡ put (set (set w next command) (next + 1) count) (next + 2) es → es ≡ ds
+-- first byte, address, command and count, each stored behind the other, and then the data, copied
+record-made : (first command count : ℕ) (ab ds l : List ℕ) {w r es : List ℕ} (next : ℕ) → w ≡ put (set l 0 first) 1 ab → next ≡ 1 + length ab → r ≡ putIfFits (set (set w next command) (next + 1) count) (next + 2) es → es ≡ ds
     → next + 2 + length ds ≤ length l → r ≡ put l 0 (first ∷ (ab ++ (command ∷ count ∷ ds)))
-record-made first command count ab ds l {w} {r} next ew en er ed h =
-    let a1 = first ∷ ab in
-    let a2 = a1 ++ (command ∷ []) in
-    let a3 = a2 ++ (count ∷ []) in
-    let l2 : length a2 ≡ next + 1 = omega (arith, length-append a1 (command ∷ [])) in
-    let l3 : length a3 ≡ next + 2 = omega (arith, length-append a2 (count ∷ [])) in
-    let s1 : w ≡ put l 0 a1 = ew ∙ ap (λ (q : List ℕ). put q 1 ab) (set-is-put l 0 first (omega arith)) ∙ put-put l 0 (first ∷ []) ab 1 (omega arith) refl in
-    let s2 : set w next command ≡ put l 0 a2 = ap (λ (q : List ℕ). set q next command) s1 ∙ put-snoc l 0 a1 command next (omega arith) (omega arith) in
-    let s3 : set (set w next command) (next + 1) count ≡ put l 0 a3 = ap (λ (q : List ℕ). set q (next + 1) count) s2 ∙ put-snoc l 0 a2 count (next + 1) (omega arith) (omega arith) in
-    let joined : a3 ++ ds ≡ first ∷ (ab ++ (command ∷ count ∷ ds)) = simp append-assoc in
+record-made first command count ab ds l {w} {r} {es} next ew en er ed h =
+    let front = first ∷ (ab ++ (command ∷ count ∷ [])) in
+    let size : length front ≡ next + 2 = omega (arith, length-append ab (command ∷ count ∷ [])) in
+    let stored : set (set w next command) (next + 1) count ≡ put l 0 front = put-head l [] 0 first ab next command count (sym (put-nil l 0)) refl ew en (omega arith) in
     er
-    ∙ ap (put (set (set w next command) (next + 1) count) (next + 2)) ed
-    ∙ ap (λ (q : List ℕ). put q (next + 2) ds) s3
-    ∙ put-put l 0 a3 ds (next + 2) (omega arith) (omega arith) ∙ ap (put l 0) joined
+    ∙ ap₂ (λ (q ds : List ℕ). putIfFits q (next + 2) ds) stored ed
+    ∙ put-fitting (put l 0 front) (next + 2) ds (omega (arith, length-put l 0 front (omega arith)))
+    ∙ put-put l 0 front ds (next + 2) (omega arith) (omega arith)
+    ∙ ap (put l 0) (append-assoc (first ∷ ab) (command ∷ count ∷ []) ds)
 
 number-requires : tie.Need-number-requires
 number-requires c κs = search needs
@@ -99,21 +94,20 @@ slice-write-room-3 c = simp length-set (omega (arith, simp length-set at (c .bef
 add-at : tie.Need-add-at
 add-at c = search needs
 
-sub-copy : tie.Need-sub-copy
-sub-copy c = search needs
+add-to : tie.Need-add-to
+add-to c = search needs
 
-part-copy-start : tie.Need-part-copy-start
-part-copy-start c = search needs
+sub-copy-into : tie.Need-sub-copy-into
+sub-copy-into c = search needs
 
-part-copy-end : tie.Need-part-copy-end
-part-copy-end c = search needs
+part-copy-into-start : tie.Need-part-copy-into-start
+part-copy-into-start c = search needs
 
-copy-requires : tie.Need-copy-requires
-copy-requires c κs =
-    let a = c .before .before .before .before .before .before .before .before .before .before .before .before .before .before .before .before .before .args in
-    let behind = drop 5 (a .bytes .now) in
-    let all : take (length (a .bytes .now) - 5) behind ≡ behind = take-all (length (a .bytes .now) - 5) behind (omega (arith, length-drop 5 (a .bytes .now))) in
-    (rw all (omega (arith, length-drop 5 (a .bytes .now), c .before .before .before .before .before .before .before .before .before .before .before .before .before .before .before .before .before .pre .0)), simp length-set (omega (arith, simp length-set at (c .before .before .before .before .before .write-address .kept .1 .0), c .before .before .address-length .ensures, address-length-le (a .head .long), c .before .before .before .before .before .before .before .before .before .before .before .before .before .before .before .before .before .pre .1)))
+part-copy-into-end : tie.Need-part-copy-into-end
+part-copy-into-end c = search needs
+
+copy-into-requires : tie.Need-copy-into-requires
+copy-into-requires c κs = search needs
 
 add-result : tie.Need-add-result
 add-result c = search needs
@@ -122,7 +116,7 @@ cast-result : tie.Need-cast-result
 cast-result c = search needs
 
 same-length : tie.Need-same-length
-same-length c = simp length-set at (c .before .before .copy .kept .1 .1 .0) ∙ simp length-set at (c .before .before .before .before .before .before .before .before .write-address .kept .1 .0)
+same-length c = simp length-set at (c .before .before .copy-into .kept .1 .0) ∙ simp length-set at (c .before .before .before .before .before .before .before .before .write-address .kept .1 .0)
 
 returns : tie.Need-returns
 returns c =
@@ -131,7 +125,7 @@ returns c =
     let l = a .room .now in
     let behind = drop 5 bs in
     let wire = wireAt (a .head) (a .command) (a .count) bs in
-    let all : take (length bs - 5) behind ≡ behind = take-all (length bs - 5) behind (omega (arith, length-drop 5 bs)) in
+    let all : 5 + a .count - 5 ≡ a .count = omega arith in
     let counted : length (take (a .count) behind) ≡ a .count = length-take-le (a .count) behind (omega (arith, length-drop 5 bs, c .before .before .before .before .before .before .before .before .before .before .before .before .before .before .before .before .before .before .before .before .pre .0)) in
     let address : c .before .before .before .before .before .before .before .before .before .before .from-bytes .result ≡ readAddress (a .head .long) (wire .address) = c .before .before .before .before .before .before .before .before .before .before .from-bytes .ensures ∙ address-taken (a .head .long) bs in
     let long : isLong (c .before .before .before .before .before .before .before .before .before .before .from-bytes .result) ≡ a .head .long = ap isLong address ∙ long-read (a .head .long) (wire .address) in
@@ -141,7 +135,7 @@ returns c =
     let next = 1 + c .before .before .before .before .before .address-length .result in
     let written : next ≡ 1 + length ab = omega (arith, c .before .before .before .before .before .address-length .ensures, length-address (c .before .before .before .before .before .before .before .before .before .before .from-bytes .result), ap addressLength long) in
     let fits : next + 2 + length ds ≤ length l = omega (arith, counted, c .before .before .before .before .before .address-length .ensures, address-length-le (a .head .long), c .before .before .before .before .before .before .before .before .before .before .before .before .before .before .before .before .before .before .before .before .pre .1) in
-    let laid = record-made first (a .command) (a .count) ab ds l next (c .before .before .before .before .before .before .before .before .write-address .ensures) written (c .before .before .copy .ensures) (ap (take (a .count)) all) fits in
+    let laid = record-made first (a .command) (a .count) ab ds l next (c .before .before .before .before .before .before .before .before .write-address .ensures) written (c .before .before .copy-into .ensures) (ap (λ (k : ℕ). take k behind) all) fits in
     let opening : first ≡ firstOf 0 (typeNumber (a .head .«frame_type»)) (longBit (a .head .long)) = omega (arith, c .before .before .before .before .before .before .before .before .before .before .before .before .before .before .before .before .before .number .ensures, c .before .before .before .before .before .before .before .before .before .before .before .before .before .before .before .before .long-bit .ensures) in
     let same : first ∷ (ab ++ (a .command ∷ a .count ∷ ds)) ≡ frameRecord wire = rw (opening, address, counted) in
     (omega (arith, ap length same, length-append ab (a .command ∷ a .count ∷ ds), counted, written), laid ∙ ap (put l 0) same)
@@ -170,10 +164,11 @@ write-frame-spec =
     add-room-2
     slice-write-room-3
     add-at
-    sub-copy
-    part-copy-start
-    part-copy-end
-    copy-requires
+    add-to
+    sub-copy-into
+    part-copy-into-start
+    part-copy-into-end
+    copy-into-requires
     add-result
     cast-result
     same-length

@@ -25,33 +25,18 @@ sub-if1 c = rw (c .address-length .ensures) (some (c .before .before .args .head
 add-t8 : tie.Need-add-t8
 add-t8 c = search needs
 
-going-on-requires : tie.Need-going-on-requires
-going-on-requires c κs = search needs
-
 returns : tie.Need-returns
 returns c =
-    let at = c .before .before .before .before .args in
-    let more : at .received + 1 < addressLength (at .head .long) = omega (arith, rw (c .before .before .address-length .ensures) at (c .before .if1 .taken)) in
-    rw (lt-ltb _ _ more) (rw (c .before .before .before .mix .ensures) at (c .going-on .ensures))
-
-going-on-requires-2 : tie.Need-going-on-requires-2
-going-on-requires-2 c κs = search needs
+    let at = c .before .before .before .args in
+    let more : at .received + 1 < addressLength (at .head .long) = omega (arith, rw (c .before .address-length .ensures) at (c .if1 .taken)) in
+    rw (lt-ltb _ _ more, c .before .before .mix .ensures)
 
 returns-2 : tie.Need-returns-2
 returns-2 c =
-    let at = c .before .before .before .before .args in
-    let last : addressLength (at .head .long) ≤ at .received + 1 = omega (arith, some (at .head .long), rw (c .before .before .address-length .ensures) at (c .before .if1 .left)) in
-    rw (le-ltb _ _ last) (rw (c .before .before .before .mix .ensures) at (c .going-on2 .ensures))
+    let at = c .before .before .before .args in
+    let last : addressLength (at .head .long) ≤ at .received + 1 = omega (arith, some (at .head .long), rw (c .before .address-length .ensures) at (c .if1 .left)) in
+    rw (le-ltb _ _ last, c .before .before .mix .ensures)
 
 pub address-spec : {M : Type 1} → statement M
 address-spec =
-    tie.close
-    (tie.spec
-    mix-requires
-    address-length-requires
-    sub-if1
-    add-t8
-    going-on-requires
-    returns
-    going-on-requires-2
-    returns-2)
+    tie.close (tie.spec mix-requires address-length-requires sub-if1 add-t8 returns returns-2)

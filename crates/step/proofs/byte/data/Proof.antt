@@ -13,19 +13,11 @@ add-if1 c = search needs
 add-t11 : tie.Need-add-t11
 add-t11 c = search needs
 
-going-on-requires : tie.Need-going-on-requires
-going-on-requires c κs = search needs
-
 returns : tie.Need-returns
-returns c = rw (lt-ltb _ _ (c .before .if1 .taken)) (rw (c .before .before .mix .ensures) at (c .going-on .ensures))
-
-going-on-requires-2 : tie.Need-going-on-requires-2
-going-on-requires-2 c κs = search needs
+returns c = rw (lt-ltb _ _ (c .if1 .taken), c .before .mix .ensures)
 
 returns-2 : tie.Need-returns-2
-returns-2 c = rw (le-ltb _ _ (c .before .if1 .left)) (rw (c .before .before .mix .ensures) at (c .going-on2 .ensures))
+returns-2 c = rw (le-ltb _ _ (c .if1 .left), c .before .mix .ensures)
 
 pub data-spec : {M : Type 1} → statement M
-data-spec =
-    tie.close
-    (tie.spec mix-requires add-if1 add-t11 going-on-requires returns going-on-requires-2 returns-2)
+data-spec = tie.close (tie.spec mix-requires add-if1 add-t11 returns returns-2)

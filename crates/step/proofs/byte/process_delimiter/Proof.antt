@@ -10,9 +10,6 @@ read-delimiter-requires c κs = search needs
 enum-known-frame-type : tie.Need-enum-known-frame-type
 enum-known-frame-type c = search needs
 
-going-on-requires : tie.Need-going-on-requires
-going-on-requires c κs = search needs
-
 enum-told : tie.Need-enum-told
 enum-told c = search needs
 
@@ -20,7 +17,7 @@ piece-over-requires : tie.Need-piece-over-requires
 piece-over-requires c κs = search needs
 
 returns : tie.Need-returns
-returns c = rw (sym (c .before .before .before .before .read-delimiter .ensures) ∙ c .before .before .frame-type .given .1) (c .going-on .ensures)
+returns c = rw (sym (c .before .before .before .read-delimiter .ensures) ∙ c .before .frame-type .given .1)
 
 returns-2 : tie.Need-returns-2
 returns-2 c = rw (sym (c .before .before .before .read-delimiter .ensures) ∙ c .before .enum-told .given .1) (c .piece-over .ensures)
@@ -31,7 +28,6 @@ process-delimiter-spec =
     (tie.spec
     read-delimiter-requires
     enum-known-frame-type
-    going-on-requires
     enum-told
     piece-over-requires
     returns

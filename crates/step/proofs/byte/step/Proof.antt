@@ -34,9 +34,6 @@ enum-known-state-3 c = search needs
 mix-requires : tie.Need-mix-requires
 mix-requires c κs = search needs
 
-going-on-requires : tie.Need-going-on-requires
-going-on-requires c κs = search needs
-
 enum-known-state-4 : tie.Need-enum-known-state-4
 enum-known-state-4 c = search needs
 
@@ -77,7 +74,7 @@ returns-3 : tie.Need-returns-3
 returns-3 c = rw (c .before .before .before .before .before .before .state2 .given .1) (c .address .ensures, c .before .before .before .keep .ensures)
 
 returns-4 : tie.Need-returns-4
-returns-4 c = rw (c .before .before .before .state3 .given .1) (rw (c .before .mix .ensures) at (c .going-on .ensures), refl)
+returns-4 c = rw (c .before .before .state3 .given .1, c .mix .ensures) (refl, refl)
 
 returns-5 : tie.Need-returns-5
 returns-5 c = rw (c .before .before .state4 .given .1) (c .byte-count .ensures, refl)
@@ -105,7 +102,6 @@ step-spec =
     address-requires
     enum-known-state-3
     mix-requires
-    going-on-requires
     enum-known-state-4
     byte-count-requires
     enum-known-state-5

@@ -1,17 +1,32 @@
 -- `is_reachable` meets its contract.
+use Prim.Native.Nat.{ℕ, _+_, _-_, _≤_}
 use native.Mathlib.Omega.{arith}
-use Prim.Native.Nat.{_-_}
-use mathlib.Core.Path.{_≡_, sym, ap, _∙_}
-use mathlib.Core.Bool.{true, false}
-use lib.ListN.{length, take, drop, length-drop}
-use lib.Seq.{length-take-le, take-all}
+use mathlib.Core.Path.{_≡_, refl, sym, ap, ap₂, _∙_}
+use mathlib.Core.Bool.{Bool, true, false, _&&_}
+use mathlib.Core.List.{List}
+use lib.ListN.{length, take, drop}
+use lib.Seq.{length-take-le, take-add, drop-at, drop-drop}
 use borrow.Author.Tests.{eq-eqb, ne-eqb}
-use Rattle.machine.specs.Reachable.{claimOf, allZero, isRight, reachableAt}
+use Rattle.machine.specs.Reachable.{claimOf, allZero, isClear, isRight, reachableAt}
 use Rattle.machine.specs.declared.claim.Claim.{Claim}
+use Rattle.machine.specs.declared.state.State.{State}
 use Rattle.machine.proofs.Claims.{possible-address}
 use borrow.Author.Needs.{needs}
 use Rattle.step.proofs.reachable.is_reachable.Statement.{statement}
 use Rattle.step.proofs.reachable.is_reachable.Tie as tie
+
+told-address : (s : State) {q : Claim} → q ≡ claimOf s → q .possible ≡ true → q .address ≤ 5
+told-address s e p = rw e (possible-address s (sym (ap (λ (x : Claim). x .possible) e) ∙ p))
+
+-- a part from a place up to another
+part-front : (a e : ℕ) (l : List ℕ) → a ≤ e → e ≤ length l → take (e - a) (drop a l) ≡ drop a (take e l)
+part-front a e l h k =
+    let to : a + (e - a) ≡ e = omega arith in
+    sym (ap (λ (n : ℕ). drop a (take n l)) (sym to) ∙ ap (drop a) (take-add a (e - a) l) ∙ drop-at (take a l) (take (e - a) (drop a l)) a (length-take-le a l (omega arith)))
+
+and-under : (a b c : Bool) → (a ≡ true → b ≡ c) → a && b ≡ a && c
+and-under true b c f = f refl
+and-under false b c f = refl
 
 returns : tie.Need-returns
 unfolding reachableAt
@@ -20,56 +35,55 @@ returns c = rw (ne-eqb _ 260 (c .if1 .taken))
 claim-of-requires : tie.Need-claim-of-requires
 claim-of-requires c κs = search needs
 
-slice-aggregate-is-zero-from : tie.Need-slice-aggregate-is-zero-from
-slice-aggregate-is-zero-from c = sym (length-take-le 5 (c .before .before .before .before .before .args .bytes .now) (omega (arith, c .before .before .before .if1 .left)))
+cast-address : tie.Need-cast-address
+cast-address c = search needs
+
+sub-is-zero : tie.Need-sub-is-zero
+sub-is-zero c = told-address (c .before .before .before .before .before .args .state) (c .before .before .claim-of .ensures) (c .before .if2 .taken)
+
+part-is-zero-start : tie.Need-part-is-zero-start
+part-is-zero-start c = told-address (c .before .before .before .before .before .args .state) (c .before .before .claim-of .ensures) (c .before .if2 .taken)
+
+part-is-zero-end : tie.Need-part-is-zero-end
+part-is-zero-end c = search needs
+
+is-zero-requires : tie.Need-is-zero-requires
+is-zero-requires c κs = search needs
+
+cast-is-zero-from : tie.Need-cast-is-zero-from
+cast-is-zero-from c = search needs
+
+add-is-zero-from : tie.Need-add-is-zero-from
+add-is-zero-from c = search needs
 
 is-zero-from-requires : tie.Need-is-zero-from-requires
 is-zero-from-requires c κs = search needs
 
-sub-is-zero-from : tie.Need-sub-is-zero-from
-sub-is-zero-from c = search needs
-
-part-is-zero-from-start : tie.Need-part-is-zero-from-start
-part-is-zero-from-start c = search needs
-
-part-is-zero-from-end : tie.Need-part-is-zero-from-end
-part-is-zero-from-end c = search needs
-
-is-zero-from-requires-2 : tie.Need-is-zero-from-requires-2
-is-zero-from-requires-2 c κs = search needs
-
 is-right-requires : tie.Need-is-right-requires
-is-right-requires c κs =
-    let s = c .before .before .before .before .before .before .before .before .args .state in
-    let q = c .before .before .before .before .before .claim-of in
-    let e : q .result ≡ claimOf s = q .ensures in
-    let p : claimOf s .possible ≡ true = sym (ap (λ (x : Claim). x .possible) e) ∙ c .before .before .before .before .if2 .taken in
-    (rw e (possible-address s p), c .before .before .before .before .before .before .if1 .left)
+is-right-requires c κs = (told-address (c .before .before .before .before .before .before .before .before .before .args .state) (c .before .before .before .before .before .before .claim-of .ensures) (c .before .before .before .before .before .if2 .taken), c .before .before .before .before .before .before .before .if1 .left)
 
 returns-2 : tie.Need-returns-2
 unfolding reachableAt
 returns-2 c =
-    let a = c .before .before .before .before .before .before .before .before .before .args in
+    let a = c .before .before .before .before .before .before .before .before .before .before .args in
     let bs = a .bytes .now in
-    let whole : length bs ≡ 260 = c .before .before .before .before .before .before .before .if1 .left in
-    let q = c .before .before .before .before .before .before .claim-of in
-    let e : q .result ≡ claimOf (a .state) = q .ensures in
-    let p : claimOf (a .state) .possible ≡ true = sym (ap (λ (x : Claim). x .possible) e) ∙ c .before .before .before .before .before .if2 .taken in
-    let t : take (length bs - 5) (drop 5 bs) ≡ drop 5 bs = take-all (length bs - 5) (drop 5 bs) (omega (arith, length-drop 5 bs)) in
-    let address : c .before .before .before .is-zero-from .result ≡ allZero (drop (claimOf (a .state) .address) (take 5 bs)) = rw e at (c .before .before .before .is-zero-from .ensures) in
-    let loaded : c .before .is-zero-from2 .result ≡ allZero (drop (claimOf (a .state) .loaded) (drop 5 bs)) = rw (e, t) at (c .before .is-zero-from2 .ensures) in
-    let right : c .is-right .result ≡ isRight (claimOf (a .state)) bs = rw e at (c .is-right .ensures) in
-    rw (eq-eqb (length bs) 260 whole, p, ← address, ← loaded, ← right)
+    let q = claimOf (a .state) in
+    let whole : length bs ≡ 260 = c .before .before .before .before .before .before .before .before .if1 .left in
+    let e : c .before .before .before .before .before .before .before .claim-of .result ≡ q = c .before .before .before .before .before .before .before .claim-of .ensures in
+    let p : q .possible ≡ true = sym (ap (λ (x : Claim). x .possible) e) ∙ c .before .before .before .before .before .before .if2 .taken in
+    let address : c .before .before .before .is-zero .result ≡ allZero (drop (q .address) (take 5 bs)) = rw e at (c .before .before .before .is-zero .ensures) ∙ ap allZero (part-front (q .address) 5 bs (possible-address (a .state) p) (omega arith)) in
+    let loaded : c .before .is-zero-from .result ≡ allZero (drop (q .loaded) (drop 5 bs)) = rw e at (c .before .is-zero-from .ensures) ∙ ap allZero (sym (drop-drop (q .loaded) 5 bs)) in
+    let right : isClear q bs ≡ true → c .is-right .result ≡ isRight q bs = rw e at (c .is-right .ensures) in
+    let asked : reachableAt (a .state) bs ≡ isClear q bs && isRight q bs = rw (eq-eqb (length bs) 260 whole, p) in
+    ap₂ (λ (x y : Bool). (x && y) && c .is-right .result) address loaded ∙ and-under (isClear q bs) (c .is-right .result) (isRight q bs) right ∙ sym asked
 
 returns-3 : tie.Need-returns-3
 unfolding reachableAt
 returns-3 c =
-    let bs = c .before .before .before .before .args .bytes .now in
-    let q = c .before .claim-of in
     let s = c .before .before .before .before .args .state in
-    let e : q .result ≡ claimOf s = q .ensures in
+    let e : c .before .claim-of .result ≡ claimOf s = c .before .claim-of .ensures in
     let p : claimOf s .possible ≡ false = sym (ap (λ (x : Claim). x .possible) e) ∙ c .if2 .left in
-    rw (eq-eqb (length bs) 260 (c .before .before .if1 .left), p)
+    rw (eq-eqb (length (c .before .before .before .before .args .bytes .now)) 260 (c .before .before .if1 .left), p)
 
 pub is-reachable-spec : {M : Type 1} → statement M
 is-reachable-spec =
@@ -77,12 +91,14 @@ is-reachable-spec =
     (tie.spec
     returns
     claim-of-requires
-    slice-aggregate-is-zero-from
+    cast-address
+    sub-is-zero
+    part-is-zero-start
+    part-is-zero-end
+    is-zero-requires
+    cast-is-zero-from
+    add-is-zero-from
     is-zero-from-requires
-    sub-is-zero-from
-    part-is-zero-from-start
-    part-is-zero-from-end
-    is-zero-from-requires-2
     is-right-requires
     returns-2
     returns-3)
