@@ -194,7 +194,7 @@ pub fn frame_bytes(frame: &Frame, preambles: usize) -> Vec<u8> {
     [vec![PREAMBLE; preambles], body].concat()
 }
 
-/// Higher bits of a field that is too large are dropped.
+/// A field that is too large loses its high bits.
 fn address_bytes(address: &Address) -> Vec<u8> {
     let first = |primary, burst, low| 128 * u8::from(primary) + 64 * u8::from(burst) + low;
     match *address {
