@@ -5,10 +5,10 @@ use framing::Answer;
 use framing::Decoder;
 use framing::Heard;
 use framing::State;
-use machine::ADDRESS_ROOM;
-use machine::Ended;
-use machine::ROOM;
-use step::step;
+use framing::step;
+use line::ADDRESS_ROOM;
+use line::Ended;
+use line::ROOM;
 
 const FRAME: u64 = 17592186044416;
 

@@ -11,7 +11,7 @@ ghost use mathlib.Core.Path.{_≡_};
 ghost use mathlib.Core.Bool.{true};
 ghost use Prim.Native.Nat.{_≤_};
 ghost use lib.ListN.{length};
-ghost use Rattle.dump_text.specs.Text.{lineMax};
+ghost use Rattle.dump_lines.specs.Text.{lineMax};
 ghost use Rattle.dump_lines.specs.Lines.{after};
 
 // Bytes to a read, and to a write.

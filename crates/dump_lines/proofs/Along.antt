@@ -12,23 +12,23 @@ use lib.ListN.{length, getD, take, drop, length-append, drop-of-length-le}
 use lib.Seq.{length-take-le, take-suc, drop-cons}
 use borrow.Author.Tests.{lt-ltb, le-ltb}
 use Rattle.octets.specs.Put.{put}
-use Rattle.machine.specs.declared.state.State.{State}
-use Rattle.machine.specs.declared.moved.Moved.{Moved}
-use Rattle.machine.specs.declared.moved.Ended.{Ended}
-use Rattle.machine.specs.declared.moved.Ended.the-variants.{Nothing, Frame, Refused}
-use Rattle.machine.proofs.moved.Ended.{the-type as Ended·type}
+use Rattle.line.specs.declared.state.State.{State}
+use Rattle.line.specs.declared.moved.Moved.{Moved}
+use Rattle.line.specs.declared.moved.Ended.{Ended}
+use Rattle.line.specs.declared.moved.Ended.the-variants.{Nothing, Frame, Refused}
+use Rattle.line.proofs.moved.Ended.{the-type as Ended·type}
 use denote.Enum.Declared.{tagOf}
 use types.Run.{OneOf, miss}
 use Rattle.line.specs.Events.{silence}
-use Rattle.machine.specs.Step.{movedAt, storedAt}
-use Rattle.machine.specs.Feed.{holding, fresh, settledBy, settled, stepped}
-use Rattle.dump_text.specs.Text.{lineMax}
+use Rattle.line.specs.machine.Step.{movedAt, storedAt}
+use Rattle.line.specs.machine.Feed.{holding, fresh, settledBy, settled, stepped}
+use Rattle.dump_lines.specs.Text.{lineMax}
 use Rattle.dump_lines.specs.Lines.{totals, next, told, after, printed, count, taking, taken}
 use Rattle.dump_lines.specs.declared.Dump.{Dump}
 use Rattle.dump_lines.specs.declared.Taken.{Taken}
-use Rattle.machine.specs.Feed.{eventOf}
-use Rattle.dump_text.specs.Writing.{Writes}
-use Rattle.dump_text.proofs.Words.{unwritten, joined, reworded}
+use Rattle.line.specs.machine.Feed.{eventOf}
+use Rattle.dump_lines.specs.Writing.{Writes}
+use Rattle.dump_lines.proofs.Words.{unwritten, joined, reworded}
 
 pub same-totals : {b f r b′ f′ r′ : ℕ} → b ≡ b′ → f ≡ f′ → r ≡ r′ → totals b f r ≡ totals b′ f′ r′
 same-totals p q r = rw (p, q, r)

@@ -2,12 +2,12 @@
 use Prim.Native.Nat.{ℕ}
 use mathlib.Core.Path.{_≡_, refl}
 use mathlib.Core.List.{List, [], _∷_, _++_}
-use Rattle.figures.specs.Figures.{decimal}
-use Rattle.fields.specs.Delimiter.{delimiterOf}
+use Rattle.octets.specs.Figures.{decimal}
+use Rattle.types.specs.Delimiter.{delimiterOf}
 use Rattle.types.specs.Address.{addressBytes}
 use Rattle.line.specs.Layout.{preambles}
-use Rattle.machine.specs.Feed.{blank, stepped}
-use Rattle.dump_text.specs.Text.{frameLine, refusalLine, endLine}
+use Rattle.line.specs.machine.Feed.{blank, stepped}
+use Rattle.dump_lines.specs.Text.{frameLine, refusalLine, endLine}
 use Rattle.dump_lines.specs.Lines.{fresh, after, printed, lastLine}
 
 abbrev run : List ℕ

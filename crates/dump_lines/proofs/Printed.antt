@@ -8,9 +8,9 @@ use borrow.Author.Tests.{lt-ltb}
 use Rattle.line.specs.Pieces.{Piece, noise, shortRun, badDelimiter, frame, badCheck, front, bytesOf, last, joined, Bytes}
 use Rattle.line.specs.Events.{Event, silence, found, refused, verdict, silent, saidBy, dictated, gather, framesIn, refusalsIn}
 use Rattle.line.specs.Runs.{says}
-use Rattle.machine.specs.Feed.{stepped}
-use Rattle.machine.proofs.Demand.{stepped-demand}
-use Rattle.dump_text.specs.Text.{lineOf}
+use Rattle.line.specs.machine.Feed.{stepped}
+use Rattle.line.proofs.machine.Demand.{stepped-demand}
+use Rattle.dump_lines.specs.Text.{lineOf}
 use Rattle.dump_lines.specs.Lines.{largest, more, totals, counted, heldOf, fresh, next, told, after, printed, taking, lastLine}
 use Rattle.dump_lines.specs.Printed.{pieceLines, framePieces, refusedPieces, Printed, Call, takenBy, writtenBy, leftBy}
 use Rattle.dump_lines.specs.declared.Totals.{Totals}

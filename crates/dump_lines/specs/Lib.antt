@@ -1,3 +1,5 @@
--- The dump along a run of bytes: its totals, and what it prints.
+-- Document 01, 'Examples': a line of the dump, its writing into a buffer, the dump along a run of bytes, and what all of it prints.
+pub mod Text
+pub mod Writing
 pub mod Lines
 pub mod Printed

@@ -5,10 +5,10 @@ use mathlib.Core.List.{List, [], _∷_, _++_}
 use lib.Dec.{ltb}
 use lib.ListN.{length, take}
 use Rattle.line.specs.Events.{Event, silence, found, refused}
-use Rattle.machine.specs.declared.state.State.{State}
-use Rattle.machine.specs.Feed.{Held, holding, stepped}
-use Rattle.machine.specs.Feed.{fresh as freshHeld}
-use Rattle.dump_text.specs.Text.{lineOf, endLine, lineMax}
+use Rattle.line.specs.declared.state.State.{State}
+use Rattle.line.specs.machine.Feed.{Held, holding, stepped}
+use Rattle.line.specs.machine.Feed.{fresh as freshHeld}
+use Rattle.dump_lines.specs.Text.{lineOf, endLine, lineMax}
 use Rattle.dump_lines.specs.declared.Totals.{Totals}
 use Rattle.dump_lines.specs.declared.Dump.{Dump}
 use Rattle.dump_lines.specs.declared.Taken.{Taken}

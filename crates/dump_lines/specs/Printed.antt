@@ -5,7 +5,7 @@ use mathlib.Core.List.{List, [], _∷_, _++_}
 use lib.ListN.{length}
 use Rattle.line.specs.Pieces.{Piece, noise, shortRun, badDelimiter, frame, badCheck, front, bytesOf, Cut}
 use Rattle.line.specs.Events.{verdict}
-use Rattle.dump_text.specs.Text.{lineOf, endLine}
+use Rattle.dump_lines.specs.Text.{lineOf, endLine}
 use Rattle.dump_lines.specs.Lines.{totals, fresh, after, printed, lastLine, taking}
 use Rattle.dump_lines.specs.declared.Dump.{Dump}
 

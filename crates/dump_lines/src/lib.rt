@@ -1,23 +1,25 @@
 // The dump as a value: what it holds between two reads, and the lines and totals of the bytes that it
 // is handed. Document 01, 'Examples'. The program `dump` only reads and writes.
+mod dump_text;
+
+pub use dump_text::LINE_MAX;
 use dump_text::write_end;
 use dump_text::write_line;
-use machine::Ended;
-use machine::ROOM;
-use machine::State;
+use framing::step;
+use line::Ended;
+use line::ROOM;
+use line::State;
 use refusal::Written;
-use step::step;
 ghost use mathlib.Core.Path.{_≡_};
 ghost use mathlib.Core.List.{List};
 ghost use Prim.Native.Nat.{ℕ, _+_, _≤_};
 ghost use lib.ListN.{length};
 ghost use Rattle.refusal.specs.Outcome.{ends, replyOf};
 ghost use Rattle.octets.specs.Put.{put};
-ghost use Rattle.dump_text.specs.Text.{lineMax};
-ghost use Rattle.machine.specs.Feed.{eventOf};
-ghost use Rattle.dump_text.specs.Writing.{endWritten};
+ghost use Rattle.dump_lines.specs.Text.{lineMax};
+ghost use Rattle.line.specs.machine.Feed.{eventOf};
+ghost use Rattle.dump_lines.specs.Writing.{endWritten};
 ghost use Rattle.dump_lines.specs.Lines.{more, counted, dump, fresh, next, told, printed, taking, taken};
-pub use dump_text::LINE_MAX;
 
 // Each stays at the largest number that it can be.
 pub struct Totals {

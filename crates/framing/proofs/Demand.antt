@@ -1,4 +1,4 @@
--- The third demand over the decoder that callers use, and over any calls of it: what `machine` proves of what a decoder holds, under
+-- The third demand over the decoder that callers use, and over any calls of it: what `line` proves of what a decoder holds, under
 -- the decoder's name.
 use Prim.Native.Nat.{ℕ, _<_}
 use mathlib.Core.Path.{_≡_, refl, sym, ap, _∙_}
@@ -10,18 +10,18 @@ use Rattle.line.specs.Runs.{Demand, says, ends}
 use Rattle.line.proofs.Machines.{renamed-says, renamed-ends}
 use Rattle.line.proofs.Scan.{hunt, scan, told}
 use Rattle.line.proofs.Follows.{demand}
-use Rattle.machine.specs.Frames.{answerOf, heardOf}
-use Rattle.machine.specs.Feed.{Held}
-use Rattle.machine.specs.Feed as held
-use Rattle.machine.specs.Demand as held-demand
-use Rattle.machine.specs.Demand.{Call, feeds, resets}
-use Rattle.machine.specs.Source.{Result, sourceNew, returned, traced, resultOf, SmallCalls, Few}
-use Rattle.machine.specs.declared.frame.Heard.{Heard}
-use Rattle.machine.proofs.Image.{real, follows}
-use Rattle.machine.proofs.Demand as any
-use Rattle.machine.proofs.Renamed.{renamed-answered, renamed-reached, renamed-along}
-use Rattle.machine.proofs.Exact as exact
-use Rattle.machine.proofs.Source as source
+use Rattle.line.specs.machine.Frames.{answerOf, heardOf}
+use Rattle.line.specs.machine.Feed.{Held}
+use Rattle.line.specs.machine.Feed as held
+use Rattle.line.specs.machine.Demand as held-demand
+use Rattle.line.specs.machine.Demand.{Call, feeds, resets}
+use Rattle.line.specs.machine.Source.{Result, sourceNew, returned, traced, resultOf, SmallCalls, Few}
+use Rattle.line.specs.declared.frame.Heard.{Heard}
+use Rattle.line.proofs.machine.Image.{real, follows}
+use Rattle.line.proofs.machine.Demand as any
+use Rattle.line.proofs.machine.Renamed.{renamed-answered, renamed-reached, renamed-along}
+use Rattle.line.proofs.machine.Exact as exact
+use Rattle.line.proofs.machine.Source as source
 use Rattle.framing.specs.Feed.{decoderOf, heldOf, fresh, reachable, renamed, feeding, fedOf, fed}
 use Rattle.framing.specs.Demand.{hears, Answered, Reached, heardAlong, Value}
 use Rattle.framing.specs.declared.decode.Decoder.{Decoder}

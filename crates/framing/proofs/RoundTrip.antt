@@ -8,21 +8,21 @@ use mathlib.Core.List.{List, [], _∷_, _++_, map, append-assoc, append-nil, map
 use lib.Dec.{lit<}
 use lib.ListN.{length, take, replicate, length-append}
 use Rattle.octets.proofs.Check.{check-below}
-use Rattle.fields.specs.Delimiter.{delimiter}
+use Rattle.types.specs.Delimiter.{delimiter}
 use Rattle.types.specs.Address.{addressLength, isLong, addressBytes, Limited}
-use Rattle.fields.proofs.Delimiters.{delimiter-small}
+use Rattle.types.proofs.Delimiters.{delimiter-small}
 use Rattle.types.proofs.Addresses.{length-address, address-bytes-below, address-back, long-read}
 use Rattle.line.specs.Layout.{Wire, Fits, preambles, body, checkOf}
 use Rattle.line.specs.Pieces.{Piece, noise, shortRun, badDelimiter, frame, badCheck, front, bytesOf, Bytes, joined, AllHold, Cut, nothing}
 use Rattle.line.specs.Events.{Event, silence, found, verdict, silent, saidBy, dictated, gather, framesIn}
 use Rattle.line.proofs.Layouts.{length-frame}
 use Rattle.line.proofs.Bytes.{bytes-append, bytes-replicate}
-use Rattle.encode.specs.Encode.{layout, total}
-use Rattle.encode.proofs.Layouts.{length-layout, encoded-whole}
-use Rattle.machine.specs.Frames.{frameOf, heardOf}
+use Rattle.framing.specs.Encode.{layout, total}
+use Rattle.framing.proofs.Layouts.{length-layout, encoded-whole}
+use Rattle.line.specs.machine.Frames.{frameOf, heardOf}
 use Rattle.framing.specs.RoundTrip.{Handed, written, IsDone, heardBack, HeardBehind, Lacks, NotFound}
-use Rattle.machine.specs.declared.frame.Frame.{Frame}
-use Rattle.machine.specs.declared.frame.Heard.{Heard}
+use Rattle.line.specs.declared.frame.Frame.{Frame}
+use Rattle.line.specs.declared.frame.Heard.{Heard}
 use Rattle.framing.proofs.Demand.{answered}
 
 -- pieces joined

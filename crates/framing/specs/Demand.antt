@@ -1,9 +1,9 @@
--- The third demand, of the decoder by value: `machine` says it of whatever hears bytes from a new one on.
+-- The third demand, of the decoder by value: `line` says it of whatever hears bytes from a new one on.
 use Prim.Native.Nat.{ℕ}
 use mathlib.Core.List.{List}
-use Rattle.machine.specs.Demand as machine
-use Rattle.machine.specs.Demand.{Call}
-use Rattle.machine.specs.declared.frame.Heard.{Heard}
+use Rattle.line.specs.machine.Demand as machine
+use Rattle.line.specs.machine.Demand.{Call}
+use Rattle.line.specs.declared.frame.Heard.{Heard}
 use Rattle.framing.specs.Feed.{heldOf, fresh, fed}
 use Rattle.framing.specs.declared.decode.Decoder.{Decoder}
 

@@ -1,11 +1,11 @@
--- What feeding a byte to the decoder by value comes to. A decoder is what `machine` has as Held, under a name of its own.
+-- What feeding a byte to the decoder by value comes to. A decoder is what `line` has as Held, under a name of its own.
 use Prim.Native.Nat.{ℕ}
 use mathlib.Core.Bool.{Bool}
 use Rattle.line.specs.Events.{Event}
-use Rattle.machine.specs.Frames.{noFrame, heardOf}
-use Rattle.machine.specs.Feed as machine
-use Rattle.machine.specs.Feed.{Held}
-use Rattle.machine.specs.declared.frame.Answer.{Answer}
+use Rattle.line.specs.machine.Frames.{noFrame, heardOf}
+use Rattle.line.specs.machine.Feed as machine
+use Rattle.line.specs.machine.Feed.{Held}
+use Rattle.line.specs.declared.frame.Answer.{Answer}
 use Rattle.framing.specs.declared.decode.Decoder.{Decoder}
 use Rattle.framing.specs.declared.decode.Fed.{Fed}
 

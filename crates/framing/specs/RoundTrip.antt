@@ -5,22 +5,22 @@ use mathlib.Core.Logic.{_≢_}
 use mathlib.Core.List.{List, [], _∷_, _++_, map}
 use lib.ListN.{length, take, replicate}
 use Rattle.refusal.specs.Outcome.{ends, done}
-use Rattle.fields.specs.declared.delimiter.FrameType.{FrameType}
+use Rattle.types.specs.declared.delimiter.FrameType.{FrameType}
 use Rattle.types.specs.declared.address.Address.{Address}
 use Rattle.types.specs.Address.{Ranged}
 use Rattle.line.specs.Layout.{Wire}
 use Rattle.line.specs.Pieces.{Piece, Bytes, joined}
 use Rattle.line.specs.Events.{silence, saidBy}
 use Rattle.line.specs.Runs.{says}
-use Rattle.encode.specs.Encode.{wireOf, encoded}
-use Rattle.machine.specs.Room.{dataRoom}
-use Rattle.machine.specs.Frames.{padded, frameOf, heardOf}
+use Rattle.framing.specs.Encode.{wireOf, encoded}
+use Rattle.line.specs.machine.Room.{dataRoom}
+use Rattle.line.specs.machine.Frames.{padded, frameOf, heardOf}
 use Rattle.framing.specs.Feed.{fresh}
-use Rattle.machine.specs.Demand.{framesHeard}
+use Rattle.line.specs.machine.Demand.{framesHeard}
 use Rattle.framing.specs.Demand.{hears}
-use Rattle.machine.specs.declared.frame.Frame.{Frame}
-use Rattle.machine.specs.declared.frame.Answer.the-variants.{Found}
-use Rattle.machine.specs.declared.frame.Heard.{Heard}
+use Rattle.line.specs.declared.frame.Frame.{Frame}
+use Rattle.line.specs.declared.frame.Answer.the-variants.{Found}
+use Rattle.line.specs.declared.frame.Heard.{Heard}
 
 -- what a caller hands to the encoder, each number that reaches the line in the range of its type
 pub record Handed : Type 0 where

@@ -1,17 +1,17 @@
 // The decoder by value: a byte takes one decoder and gives the next.
+use crate::byte::step;
 use crate::frame::frame_of;
-use machine::Answer;
-use machine::Ended;
-use machine::Frame;
-use machine::Heard;
-use machine::Moved;
-use machine::ROOM;
-use machine::State;
+use crate::reachable::is_reachable;
+use line::Answer;
+use line::Ended;
+use line::Frame;
+use line::Heard;
+use line::Moved;
+use line::ROOM;
+use line::State;
 use refusal::Refusal;
-use step::is_reachable;
-use step::step;
 ghost use mathlib.Core.Path.{_≡_};
-ghost use Rattle.machine.specs.Feed.{settled};
+ghost use Rattle.line.specs.machine.Feed.{settled};
 ghost use Rattle.framing.specs.Feed.{fresh, reachable, frameless, renamed, fedOf, fed};
 
 // The bytes are those of the address and of the data, zero where nothing was read.

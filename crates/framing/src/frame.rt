@@ -1,14 +1,14 @@
 // The frame that a decoder's bytes hold, as callers see it.
-use machine::ADDRESS_ROOM;
-use machine::Frame;
-use machine::Head;
+use line::ADDRESS_ROOM;
+use line::Frame;
+use line::Head;
 use octets::copy_into;
 use types::Address;
 use types::consts::MAX_DATA_LENGTH;
 ghost use mathlib.Core.Path.{_≡_};
 ghost use lib.ListN.{length, take, drop};
-ghost use Rattle.machine.specs.Room.{addressRoom, dataRoom, room};
-ghost use Rattle.machine.specs.Frames.{padded, frameOf, wireAt};
+ghost use Rattle.line.specs.machine.Room.{addressRoom, dataRoom, room};
+ghost use Rattle.line.specs.machine.Frames.{padded, frameOf, wireAt};
 
 // The first bytes of the data, and zeros.
 fn data_of(bytes: &[u8], n: u8) -> [u8; MAX_DATA_LENGTH]

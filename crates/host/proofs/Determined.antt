@@ -1,8 +1,8 @@
--- Each promise of this crate leaves one outcome.
+-- Each promise of this crate leaves one outcome: one answer, and one content of each lent buffer.
 use denote.Ref.{now}
 use Rattle.refusal.specs.Determined.{Determined}
-use Rattle.block.specs.Block.{tells}
-use Rattle.block.proofs.Known.{agree-told, agree-cleared}
+use Rattle.host.specs.Block.{tells}
+use Rattle.host.proofs.Known.{agree-told, agree-cleared}
 use Rattle.host.proofs.hart_clear.Kinds as hart-clear-kinds
 use Rattle.host.proofs.hart_clear.Reads as hart-clear-reads
 use Rattle.host.proofs.hart_feed.Kinds as hart-feed-kinds

@@ -1,8 +1,13 @@
 // What a host's C calls, by these names: include/hart.h says how. Document 01, 'For the C host'.
-use block::clear_block;
-use block::feed_block;
+mod block_header;
+mod feed;
+mod load;
+mod records;
+
+use feed::clear_block;
+use feed::feed_block;
 ghost use mathlib.Core.Path.{_≡_};
-ghost use Rattle.block.specs.Block.{tells, fedBlock, clears, clearedBlock};
+ghost use Rattle.host.specs.Block.{tells, fedBlock, clears, clearedBlock};
 
 // One byte in: 0, the length of the record in the room, or 1000 and a refusal's number.
 #[no_mangle]

@@ -6,8 +6,8 @@ use lib.ListN.{getD}
 use Rattle.line.specs.Pieces.{Bytes}
 use Rattle.line.specs.Events.{Event, silence, found, refused, dictated, gather, loudIn}
 use Rattle.line.proofs.Follows.{gathered}
-use Rattle.machine.specs.Frames.{heardOf}
-use Rattle.machine.specs.declared.frame.Heard.{Heard}
+use Rattle.line.specs.machine.Frames.{heardOf}
+use Rattle.line.specs.declared.frame.Heard.{Heard}
 use Rattle.framing.proofs.Demand.{feeding-demand}
 use Rattle.lent.specs.Listen.{quiet, soundings, listened}
 use Rattle.lent.specs.Demand.{Listened}

@@ -23,9 +23,9 @@ use denote.Struct.Laws as LL
 use denote.Triple.Statement.{Contract, Triple}
 use denote.Triple.Clauses.{ensured, lasts}
 use denote.Triple.Spec.{tripleOf}
-use Rattle.machine.specs.declared.frame.Heard.{Heard}
-use Rattle.machine.proofs.frame.Heard as F
-use Rattle.machine.proofs.frame.Heard.Laws as F′
+use Rattle.line.specs.declared.frame.Heard.{Heard}
+use Rattle.line.proofs.frame.Heard as F
+use Rattle.line.proofs.frame.Heard.Laws as F′
 use Rattle.lent.specs.declared.keep.Kept.{Kept}
 use Rattle.lent.specs.Listen.{keeping}
 use Rattle.lent.proofs.keep.Kept as S

@@ -33,11 +33,11 @@ use denote.Triple.Call.{calls-at}
 use denote.Triple.Clauses.{ensured, lasts}
 use denote.Triple.Spec.{tripleOf}
 use Rattle.framing.specs.declared.decode.Decoder.{Decoder}
-use Rattle.machine.specs.declared.frame.Heard.{Heard}
+use Rattle.line.specs.declared.frame.Heard.{Heard}
 use Rattle.framing.proofs.decode.Decoder as T
 use Rattle.framing.proofs.decode.Decoder.Laws as T′
-use Rattle.machine.proofs.frame.Heard as F
-use Rattle.machine.proofs.frame.Heard.Laws as F′
+use Rattle.line.proofs.frame.Heard as F
+use Rattle.line.proofs.frame.Heard.Laws as F′
 use Rattle.lent.proofs.New.{mach}
 use Rattle.lent.proofs.Listening.{next, heardAt}
 use Rattle.lent.proofs.feed as feed

@@ -11,8 +11,8 @@ use lib.Seq.{drop-cons}
 use Rattle.line.specs.Events.{Event, silence, found, refused}
 use Rattle.line.specs.Runs.{says}
 use Rattle.framing.specs.declared.decode.Decoder.{Decoder}
-use Rattle.machine.specs.declared.frame.Heard.{Heard}
-use Rattle.machine.specs.Frames.{heardOf}
+use Rattle.line.specs.declared.frame.Heard.{Heard}
+use Rattle.line.specs.machine.Frames.{heardOf}
 use Rattle.framing.specs.Feed.{fresh, feeding}
 use Rattle.lent.specs.declared.keep.Kept.{Kept}
 use Rattle.lent.specs.Listen.{quiet, soundings, listened, waitingFor, keeping}

@@ -6,11 +6,11 @@ use lib.Dec.{eqb}
 use lib.ListN.{getD}
 use Rattle.line.specs.Runs.{says}
 use Rattle.line.specs.Events.{silence}
-use Rattle.machine.specs.Frames.{heardOf}
+use Rattle.line.specs.machine.Frames.{heardOf}
 use Rattle.framing.specs.Feed.{fresh, feeding}
-use Rattle.machine.specs.declared.frame.Answer.{Answer}
-use Rattle.machine.specs.declared.frame.Answer.the-variants.{Silence, Found, Refused}
-use Rattle.machine.specs.declared.frame.Heard.{Heard}
+use Rattle.line.specs.declared.frame.Answer.{Answer}
+use Rattle.line.specs.declared.frame.Answer.the-variants.{Silence, Found, Refused}
+use Rattle.line.specs.declared.frame.Heard.{Heard}
 use Rattle.lent.specs.declared.keep.Kept.{Kept}
 
 abbrev pub isSilence : Answer → Bool

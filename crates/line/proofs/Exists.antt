@@ -12,11 +12,11 @@ use lib.Seq.{append-snoc}
 use lib.Dec.{eqb, leb}
 use borrow.Author.Tests.{eqb-true, eqb-false, leb-true, leb-false}
 use Rattle.octets.proofs.Check.{check-below}
-use Rattle.fields.specs.declared.delimiter.Delimiter.{Delimiter}
-use Rattle.fields.specs.declared.delimiter.Delimiter.the-variants.{Known, Unknown}
-use Rattle.fields.specs.Delimiter.{delimiter, delimiterOf}
+use Rattle.types.specs.declared.delimiter.Delimiter.{Delimiter}
+use Rattle.types.specs.declared.delimiter.Delimiter.the-variants.{Known, Unknown}
+use Rattle.types.specs.Delimiter.{delimiter, delimiterOf}
 use Rattle.types.specs.Address.{addressLength}
-use Rattle.fields.proofs.Delimiters.{Right, delimiter-right, delimiter-small}
+use Rattle.types.proofs.Delimiters.{Right, delimiter-right, delimiter-small}
 use Rattle.line.specs.Layout.{Wire, Fits, preambles, body, checkOf}
 use Rattle.line.specs.Pieces.{
   Piece,

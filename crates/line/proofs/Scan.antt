@@ -8,10 +8,10 @@ use mathlib.Core.Option.{Option, none, some}
 use mathlib.Core.List.{List, [], _∷_, _++_}
 use lib.ListN.{length}
 use lib.Dec.{eqb, leb}
-use Rattle.fields.specs.declared.delimiter.FrameType.{FrameType}
-use Rattle.fields.specs.declared.delimiter.Delimiter.{Delimiter}
-use Rattle.fields.specs.declared.delimiter.Delimiter.the-variants.{Known, Unknown}
-use Rattle.fields.specs.Delimiter.{delimiter, delimiterOf}
+use Rattle.types.specs.declared.delimiter.FrameType.{FrameType}
+use Rattle.types.specs.declared.delimiter.Delimiter.{Delimiter}
+use Rattle.types.specs.declared.delimiter.Delimiter.the-variants.{Known, Unknown}
+use Rattle.types.specs.Delimiter.{delimiter, delimiterOf}
 use Rattle.types.specs.Address.{addressLength}
 use Rattle.line.specs.Layout.{Wire, Fits, preambles, body, checkOf}
 use Rattle.line.specs.Pieces.{Piece, noise, shortRun, badDelimiter, frame, badCheck, Bytes}

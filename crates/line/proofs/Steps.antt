@@ -9,10 +9,10 @@ use lib.ListN.{length, length-append}
 use lib.Seq.{append-snoc}
 use lib.Dec.{eqb}
 use borrow.Author.Tests.{eq-eqb, ne-eqb, le-leb}
-use Rattle.fields.specs.declared.delimiter.FrameType.{FrameType}
-use Rattle.fields.specs.Delimiter.{delimiter}
+use Rattle.types.specs.declared.delimiter.FrameType.{FrameType}
+use Rattle.types.specs.Delimiter.{delimiter}
 use Rattle.types.specs.Address.{addressLength}
-use Rattle.fields.proofs.Delimiters.{delimiter-back, delimiter-small}
+use Rattle.types.proofs.Delimiters.{delimiter-back, delimiter-small}
 use Rattle.line.specs.Layout.{Wire, Fits, preambles, body}
 use Rattle.line.specs.Runs.{ends}
 use Rattle.line.proofs.Scan.{

@@ -18,7 +18,7 @@ use mathlib.Core.List.{
   cons≢nil,
 }
 use borrow.Author.Tests.{eq-eqb, ne-eqb, le-leb, lt-leb}
-use Rattle.fields.proofs.Delimiters.{delimiter-unknown}
+use Rattle.types.proofs.Delimiters.{delimiter-unknown}
 use Rattle.line.specs.Layout.{checkOf}
 use Rattle.line.specs.Pieces.{
   Piece,

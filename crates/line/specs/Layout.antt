@@ -5,8 +5,8 @@ use mathlib.Core.Bool.{Bool}
 use mathlib.Core.List.{List, _∷_, _++_}
 use lib.ListN.{length, replicate}
 use Rattle.octets.specs.Check.{check}
-use Rattle.fields.specs.declared.delimiter.FrameType.{FrameType}
-use Rattle.fields.specs.Delimiter.{delimiter}
+use Rattle.types.specs.declared.delimiter.FrameType.{FrameType}
+use Rattle.types.specs.Delimiter.{delimiter}
 use Rattle.types.specs.Address.{addressLength}
 
 -- what a frame carries, its address still in bytes

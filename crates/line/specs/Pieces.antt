@@ -5,8 +5,8 @@ use mathlib.Core.Logic.{_≢_}
 use mathlib.Core.Bool.{Bool}
 use mathlib.Core.List.{List, [], _∷_, _++_}
 use Rattle.octets.specs.Digits.{Below}
-use Rattle.fields.specs.declared.delimiter.FrameType.{FrameType}
-use Rattle.fields.specs.Delimiter.{delimiter}
+use Rattle.types.specs.declared.delimiter.FrameType.{FrameType}
+use Rattle.types.specs.Delimiter.{delimiter}
 use Rattle.line.specs.Layout.{Wire, Fits, preambles, body, checkOf}
 
 -- where a piece begins with preamble bytes, their number comes first

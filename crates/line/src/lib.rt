@@ -1,2 +1,18 @@
-// No code: what a line of bytes means, for the crates above. See specs/ for the definitions and
-// proofs/ for the theorems.
+// What a line of bytes means, and what a decoder holds and answers. Here are the decoder's types and no
+// code but the empty frame; specs/ has the definitions, proofs/ the theorems, and the code of a byte is in
+// `framing`.
+mod claim;
+mod frame;
+mod moved;
+mod state;
+
+pub use claim::Claim;
+pub use frame::Answer;
+pub use frame::Frame;
+pub use frame::Heard;
+pub use moved::Ended;
+pub use moved::Moved;
+pub use state::ADDRESS_ROOM;
+pub use state::Head;
+pub use state::ROOM;
+pub use state::State;

@@ -1,12 +1,18 @@
-// Numbers, bits and the check of a frame, as bytes on the line carry them, and the copying of bytes.
+// Numbers, bits and the check of a frame, as bytes on the line carry them; the copying of bytes; and
+// numbers as text.
 mod bits;
 mod checksum;
 mod copy;
+mod figures;
 mod numbers;
 
 pub use bits::has_bit;
 pub use checksum::checksum_from;
 pub use copy::copy_into;
+pub use figures::DECIMAL_ROOM;
+pub use figures::Digits;
+pub use figures::decimal;
+pub use figures::hex;
 pub use numbers::decode_u16_be;
 pub use numbers::decode_u24_be;
 pub use numbers::decode_u32_be;

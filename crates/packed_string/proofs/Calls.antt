@@ -3,8 +3,8 @@ use Prim.Native.Nat.{ℕ}
 use mathlib.Core.Path.{_≡_, ap}
 use mathlib.Core.List.{List}
 use Rattle.refusal.specs.Outcome.{wrote}
-use Rattle.text_group.specs.declared.Mode.the-variants.{Crate}
-use Rattle.text_groups.specs.Groups.{packed, unpacked, packedCount, unpackedCount}
+use Rattle.packed_string.specs.declared.text_group.Mode.the-variants.{Crate}
+use Rattle.packed_string.specs.Groups.{packed, unpacked, packedCount, unpackedCount}
 use Rattle.packed_string.specs.Text.{cratePacked, crateUnpacked}
 
 pub crate-packs : (text buffer : List ℕ) {n : ℕ} → packedCount text buffer ≡ n → cratePacked text buffer ≡ wrote (packed Crate text n) buffer

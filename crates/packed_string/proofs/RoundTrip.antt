@@ -13,16 +13,16 @@ use borrow.Author.Tests.{ltb-true, ltb-false}
 use Rattle.refusal.specs.Outcome.{wrote}
 use Rattle.octets.specs.Put.{firstParts}
 use Rattle.octets.proofs.Parts.{parts-zero, parts-suc}
-use Rattle.text_group.specs.declared.Mode.{Mode}
-use Rattle.text_group.specs.declared.Mode.the-variants.{Crate, Standard}
-use Rattle.text_group.specs.Group.{codeOf, charOf, packGroup, unpackGroup}
-use Rattle.text_group.proofs.Group.{code-below, group-back}
-use Rattle.text_groups.specs.Groups.{charsAt, bytesAt, packedGroup, unpackedGroup, packed, unpacked, groups}
-use Rattle.text_groups.proofs.Groups.{length-packed}
-use Rattle.bad_character.specs.Plain.{Coded, Plain}
-use Rattle.bad_character.proofs.BadPlace.{plain-place}
-use Rattle.standard_text.specs.Standard.{standardPacked, standardUnpacked}
-use Rattle.standard_text.proofs.Calls.{standard-packs, standard-unpacks}
+use Rattle.packed_string.specs.declared.text_group.Mode.{Mode}
+use Rattle.packed_string.specs.declared.text_group.Mode.the-variants.{Crate, Standard}
+use Rattle.packed_string.specs.Group.{codeOf, charOf, packGroup, unpackGroup}
+use Rattle.packed_string.proofs.Group.{code-below, group-back}
+use Rattle.packed_string.specs.Groups.{charsAt, bytesAt, packedGroup, unpackedGroup, packed, unpacked, groups}
+use Rattle.packed_string.proofs.Groups.{length-packed}
+use Rattle.packed_string.specs.Plain.{Coded, Plain}
+use Rattle.packed_string.proofs.BadPlace.{plain-place}
+use Rattle.packed_string.specs.Standard.{standardPacked, standardUnpacked}
+use Rattle.packed_string.proofs.StandardCalls.{standard-packs, standard-unpacks}
 use Rattle.packed_string.specs.Text.{cratePacked, crateUnpacked, readBack, filled}
 use Rattle.packed_string.proofs.Calls.{crate-packs, crate-unpacks}
 

@@ -17,11 +17,11 @@ use Rattle.octets.specs.Source.{Run, comes, shiftRight, asU8, shiftLeft}
 use Rattle.octets.proofs.Digits.{below-at}
 use Rattle.octets.proofs.Put.{length-put, put-wrote, stores-put}
 use Rattle.octets.proofs.Parts.{length-parts, parts-start, parts-turn}
-use Rattle.text_group.specs.declared.Mode.the-variants.{Crate}
-use Rattle.text_group.specs.Group.{codeOf, charOf, packGroup, unpackGroup}
-use Rattle.text_group.proofs.Group.{code-below, pack-group, unpack-group}
-use Rattle.text_groups.specs.Groups.{packedGroup, unpackedGroup, groups}
-use Rattle.text_groups.proofs.Groups.{packed-sized, unpacked-sized}
+use Rattle.packed_string.specs.declared.text_group.Mode.the-variants.{Crate}
+use Rattle.packed_string.specs.Group.{codeOf, charOf, packGroup, unpackGroup}
+use Rattle.packed_string.proofs.Group.{code-below, pack-group, unpack-group}
+use Rattle.packed_string.specs.Groups.{packedGroup, unpackedGroup, groups}
+use Rattle.packed_string.proofs.Groups.{packed-sized, unpacked-sized}
 use Rattle.packed_string.specs.Text.{cratePacked, crateUnpacked}
 use Rattle.packed_string.specs.Source.{divCeil, groupLoop, sourceCode, storeBytes, encodeTurn, sourceEncoded, storeChars, decodeGroup, decodeTurn, sourceDecoded}
 use Rattle.packed_string.proofs.Calls.{crate-packs, crate-unpacks}

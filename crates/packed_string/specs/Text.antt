@@ -3,10 +3,10 @@ use Prim.Native.Nat.{ℕ, _*_, _-_}
 use mathlib.Core.List.{List, _++_}
 use lib.ListN.{length, replicate}
 use Rattle.refusal.specs.Outcome.{Outcome, wrote}
-use Rattle.text_group.specs.declared.Mode.{Mode}
-use Rattle.text_group.specs.declared.Mode.the-variants.{Crate}
-use Rattle.text_group.specs.Group.{codeOf, charOf}
-use Rattle.text_groups.specs.Groups.{groups, packed, unpacked, packedCount, unpackedCount}
+use Rattle.packed_string.specs.declared.text_group.Mode.{Mode}
+use Rattle.packed_string.specs.declared.text_group.Mode.the-variants.{Crate}
+use Rattle.packed_string.specs.Group.{codeOf, charOf}
+use Rattle.packed_string.specs.Groups.{groups, packed, unpacked, packedCount, unpackedCount}
 
 -- Crate mode packs the groups that fit whole, unpacks the whole groups that are there and fit, and refuses nothing.
 unfoldable pub cratePacked : List ℕ → List ℕ → Outcome

@@ -1,5 +1,10 @@
-// Packed text in the mode of the Rust's packed_string.rs. The mode of the HART documents, which the
-// Rust does not have, is handed on from standard_text.
+// Packed text: in the mode of the Rust's packed_string.rs here, in the mode of the HART documents (ADDED),
+// which the Rust does not have, in standard_text. Below both are one group and groups at their places.
+mod bad_character;
+mod standard_text;
+mod text_group;
+mod text_groups;
+
 pub use bad_character::bad_place;
 pub use standard_text::decode_standard;
 pub use standard_text::encode_standard;

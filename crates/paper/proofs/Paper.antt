@@ -8,21 +8,21 @@ use lib.Dec.{ltb}
 use lib.ListN.{replicate}
 use borrow.Author.Tests.{ltb-true}
 use Rattle.octets.specs.Put.{firstParts}
-use Rattle.text_group.specs.Group.{packGroup, unpackGroup}
-use Rattle.bad_character.specs.Plain.{badPlace}
-use Rattle.standard_text.specs.Standard.{standardPacked}
+use Rattle.packed_string.specs.Group.{packGroup, unpackGroup}
+use Rattle.packed_string.specs.Plain.{badPlace}
+use Rattle.packed_string.specs.Standard.{standardPacked}
 use Rattle.packed_string.specs.Text.{cratePacked, crateUnpacked}
-use Rattle.fields.specs.Delimiter.{delimiterOf}
+use Rattle.types.specs.Delimiter.{delimiterOf}
 use Rattle.types.specs.Address.{addressBytes}
 use Rattle.line.specs.Pieces.{Bytes}
 use Rattle.line.specs.Events.{silence}
 use Rattle.line.specs.Runs.{says, ends}
 use Rattle.line.proofs.Scan.{Scan, hunt, scanWithin, scan, told}
-use Rattle.encode.specs.Encode.{encoded}
-use Rattle.machine.specs.Frames.{heardOf}
-use Rattle.machine.proofs.Zeros.{and-first, and-second}
-use Rattle.machine.proofs.Image.{real}
-use Rattle.machine.specs.declared.frame.Heard.{Heard}
+use Rattle.framing.specs.Encode.{encoded}
+use Rattle.line.specs.machine.Frames.{heardOf}
+use Rattle.line.proofs.machine.Zeros.{and-first, and-second}
+use Rattle.line.proofs.machine.Image.{real}
+use Rattle.line.specs.declared.frame.Heard.{Heard}
 use Rattle.framing.specs.Feed.{decoderOf}
 use Rattle.framing.proofs.Demand.{heard-scanned, ends-scanned}
 use Rattle.framing.specs.declared.decode.Decoder.{Decoder}

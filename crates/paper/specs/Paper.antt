@@ -5,23 +5,23 @@ use mathlib.Core.Bool.{false}
 use mathlib.Core.List.{List, [], _∷_, _++_}
 use lib.ListN.{replicate}
 use Rattle.refusal.specs.Outcome.{Outcome, ends, done, refused}
-use Rattle.standard_text.specs.Standard.{standardPacked}
+use Rattle.packed_string.specs.Standard.{standardPacked}
 use Rattle.packed_string.specs.Text.{cratePacked, crateUnpacked}
-use Rattle.fields.specs.declared.delimiter.FrameType.the-variants.{Request}
-use Rattle.fields.specs.declared.first.MasterRole.the-variants.{Primary}
+use Rattle.types.specs.declared.delimiter.FrameType.the-variants.{Request}
+use Rattle.types.specs.declared.first.MasterRole.the-variants.{Primary}
 use Rattle.types.specs.declared.address.Address.{Address}
 use Rattle.types.specs.declared.address.Address.the-variants.{Short, Long}
 use Rattle.line.specs.Layout.{preambles}
 use Rattle.line.specs.Events.{silence, refusal}
 use Rattle.line.specs.Runs as runs
-use Rattle.encode.specs.Encode.{encoded}
-use Rattle.machine.specs.Frames.{padded, heardOf}
+use Rattle.framing.specs.Encode.{encoded}
+use Rattle.line.specs.machine.Frames.{padded, heardOf}
 use Rattle.framing.specs.Feed.{fresh}
 use Rattle.framing.specs.Demand.{hears}
-use Rattle.machine.specs.declared.state.State.{State}
-use Rattle.machine.specs.declared.state.State.the-variants.{Hunting}
-use Rattle.machine.specs.declared.frame.Heard.{Heard}
-use Rattle.machine.specs.declared.frame.Answer.the-variants.{Found}
+use Rattle.line.specs.declared.state.State.{State}
+use Rattle.line.specs.declared.state.State.the-variants.{Hunting}
+use Rattle.line.specs.declared.frame.Heard.{Heard}
+use Rattle.line.specs.declared.frame.Answer.the-variants.{Found}
 
 -- What an example shows: what a call comes to; or what is heard at each byte of a run, and where the decoder then stands.
 pub data Shown : Type 0 where

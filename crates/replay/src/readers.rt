@@ -1,4 +1,4 @@
-// The calls that only read, letters a, s, i, g, j, k and h.
+// The calls that only read, letters a, s, i, g, G, j, k, K, h and H.
 use crate::addresses::address_bytes;
 use crate::bytes::byte_at;
 use crate::bytes::rest;
@@ -8,9 +8,7 @@ use crate::text::least;
 use crate::text::put;
 use crate::text::put_bytes;
 use crate::text::put_marked;
-use crate::text::put_no_case;
-use crate::text::put_refused;
-use crate::writers::answer_writing;
+use crate::text::put_refusal;
 use commands::DeviceIdentity;
 use commands::IdentityRead;
 use commands::Mode;
@@ -33,16 +31,12 @@ fn put_address_read(read: AddressRead, out: &mut [u8; OUT_SIZE], at: usize) -> u
             let next = put_marked(used, b' ', out, at);
             put_bytes(&address_bytes(address), out, next)
         }
-        AddressRead::Refused(refusal) => put_refused(refusal.number(), out, at),
+        AddressRead::Refused(refusal) => put_refusal(refusal, out, at),
     }
 }
 
-fn read_address(bytes: &[u8], out: &mut [u8; OUT_SIZE], at: usize) -> usize {
-    let long = byte_at(bytes, 0);
-    if (bytes.len() < 1) | (long > 1) {
-        return put_no_case(out, at);
-    }
-    let read = Address::decode(rest(bytes, 1), long == 1);
+pub(crate) fn read_address(bytes: &[u8], out: &mut [u8; OUT_SIZE], at: usize) -> usize {
+    let read = Address::decode(rest(bytes, 1), byte_at(bytes, 0) == 1);
     put_address_read(read, out, at)
 }
 
@@ -62,10 +56,7 @@ fn status_digits(status: ResponseStatus) -> [u8; 3] {
     ]
 }
 
-fn read_status(bytes: &[u8], out: &mut [u8; OUT_SIZE], at: usize) -> usize {
-    if bytes.len() != 2 {
-        return put_no_case(out, at);
-    }
+pub(crate) fn read_status(bytes: &[u8], out: &mut [u8; OUT_SIZE], at: usize) -> usize {
     let status = ResponseStatus::from_bytes([byte_at(bytes, 0), byte_at(bytes, 1)]);
     put_bytes(&status_digits(status), out, at)
 }
@@ -91,10 +82,10 @@ fn identity_bytes(identity: DeviceIdentity) -> [u8; 14] {
     ]
 }
 
-fn put_identity(read: IdentityRead, out: &mut [u8; OUT_SIZE], at: usize) -> usize {
+pub(crate) fn put_identity(read: IdentityRead, out: &mut [u8; OUT_SIZE], at: usize) -> usize {
     match read {
         IdentityRead::Identity(identity) => put_bytes(&identity_bytes(identity), out, at),
-        IdentityRead::Refused(refusal) => put_refused(refusal.number(), out, at),
+        IdentityRead::Refused(refusal) => put_refusal(refusal, out, at),
     }
 }
 
@@ -112,7 +103,11 @@ fn variable_bytes(variable: DeviceVariable) -> [u8; 8] {
     ]
 }
 
-fn put_variables(response: ReadDeviceVarsResponse, out: &mut [u8; OUT_SIZE], at: usize) -> usize {
+fn put_each_variable(
+    response: ReadDeviceVarsResponse,
+    out: &mut [u8; OUT_SIZE],
+    at: usize,
+) -> usize {
     let variables = response.variables;
     let end = least(response.count as usize, MAX_DEVICE_VARS);
     let mut behind = at;
@@ -125,23 +120,23 @@ fn put_variables(response: ReadDeviceVarsResponse, out: &mut [u8; OUT_SIZE], at:
     behind
 }
 
-fn read_variables(bytes: &[u8], out: &mut [u8; OUT_SIZE], at: usize) -> usize {
-    let response = read_device_vars::decode_data(Mode::Crate, bytes);
+pub(crate) fn put_variables(
+    response: ReadDeviceVarsResponse,
+    out: &mut [u8; OUT_SIZE],
+    at: usize,
+) -> usize {
     let verdict = response.verdict;
     if let PayloadVerdict::Refused(refusal) = verdict {
-        return put_refused(refusal.number(), out, at);
+        return put_refusal(refusal, out, at);
     }
     let next = put_marked(response.count as usize, b' ', out, at);
     if response.count == 0 {
         return put(b'-', out, next);
     }
-    put_variables(response, out, next)
+    put_each_variable(response, out, next)
 }
 
-fn read_tag(bytes: &[u8], out: &mut [u8; OUT_SIZE], at: usize) -> usize {
-    if bytes.len() != 6 {
-        return put_no_case(out, at);
-    }
+pub(crate) fn read_tag(mode: Mode, bytes: &[u8], out: &mut [u8; OUT_SIZE], at: usize) -> usize {
     let packed = [
         byte_at(bytes, 0),
         byte_at(bytes, 1),
@@ -150,11 +145,11 @@ fn read_tag(bytes: &[u8], out: &mut [u8; OUT_SIZE], at: usize) -> usize {
         byte_at(bytes, 4),
         byte_at(bytes, 5),
     ];
-    let tag = read_unique_id_by_tag::decode_tag(Mode::Crate, packed);
+    let tag = read_unique_id_by_tag::decode_tag(mode, packed);
     put_bytes(&tag, out, at)
 }
 
-fn put_date(
+fn put_fields(
     response: WriteTagDescriptorDateResponse,
     out: &mut [u8; OUT_SIZE],
     at: usize,
@@ -170,25 +165,27 @@ fn put_date(
     )
 }
 
-fn read_date(bytes: &[u8], out: &mut [u8; OUT_SIZE], at: usize) -> usize {
-    let response = write_tag_descriptor_date::decode_data(Mode::Crate, bytes);
+pub(crate) fn put_date(
+    response: WriteTagDescriptorDateResponse,
+    out: &mut [u8; OUT_SIZE],
+    at: usize,
+) -> usize {
     let verdict = response.verdict;
     if let PayloadVerdict::Refused(refusal) = verdict {
-        return put_refused(refusal.number(), out, at);
+        return put_refusal(refusal, out, at);
     }
-    put_date(response, out, at)
+    put_fields(response, out, at)
 }
 
-// The letters of the calls that leave nothing behind.
-pub(crate) fn answer_call(letter: u8, bytes: &[u8], out: &mut [u8; OUT_SIZE], at: usize) -> usize {
-    match letter {
-        b'a' => read_address(bytes, out, at),
-        b's' => read_status(bytes, out, at),
-        b'i' => put_identity(DeviceIdentity::decode(bytes), out, at),
-        b'g' => read_variables(bytes, out, at),
-        b'j' => put_identity(read_unique_id_by_tag::decode_data(bytes), out, at),
-        b'k' => read_tag(bytes, out, at),
-        b'h' => read_date(bytes, out, at),
-        _ => answer_writing(letter, bytes, out, at),
-    }
+pub(crate) fn read_variables(
+    mode: Mode,
+    bytes: &[u8],
+    out: &mut [u8; OUT_SIZE],
+    at: usize,
+) -> usize {
+    put_variables(read_device_vars::decode_data(mode, bytes), out, at)
+}
+
+pub(crate) fn read_date(mode: Mode, bytes: &[u8], out: &mut [u8; OUT_SIZE], at: usize) -> usize {
+    put_date(write_tag_descriptor_date::decode_data(mode, bytes), out, at)
 }

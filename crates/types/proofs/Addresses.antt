@@ -16,9 +16,9 @@ use Rattle.octets.specs.Digits.{Below}
 use Rattle.octets.specs.Put.{put}
 use Rattle.octets.proofs.Digits.{from-digits, digits-below}
 use Rattle.octets.proofs.Put.{lent-put}
-use Rattle.fields.specs.declared.first.MasterRole.{MasterRole}
-use Rattle.fields.specs.declared.first.MasterRole.the-variants.{Primary, Secondary}
-use Rattle.fields.specs.First.{masterOf, masterBit, burstBit}
+use Rattle.types.specs.declared.first.MasterRole.{MasterRole}
+use Rattle.types.specs.declared.first.MasterRole.the-variants.{Primary, Secondary}
+use Rattle.types.specs.First.{masterOf, masterBit, burstBit}
 use Rattle.types.specs.declared.address.Address.{Address}
 use Rattle.types.specs.declared.address.Address.the-variants.{Short, Long}
 use Rattle.types.specs.Address.{

@@ -8,8 +8,8 @@ use Rattle.refusal.specs.Table.{numberOf, valuesOf}
 use Rattle.refusal.specs.Outcome.{Outcome, wrote, refuses}
 use Rattle.octets.specs.Digits.{fromDigits, digits}
 use Rattle.octets.specs.Bit.{bit}
-use Rattle.fields.specs.First.{masterOf, masterBit, burstBit}
-use Rattle.fields.specs.declared.first.MasterRole.{MasterRole}
+use Rattle.types.specs.First.{masterOf, masterBit, burstBit}
+use Rattle.types.specs.declared.first.MasterRole.{MasterRole}
 use Rattle.types.specs.declared.address.Address.{Address}
 use Rattle.types.specs.declared.address.Address.the-variants.{Short, Long}
 use Rattle.types.specs.declared.address.AddressRead.{AddressRead}

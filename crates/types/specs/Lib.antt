@@ -1,2 +1,4 @@
--- What an address says, read and written.
+-- Document 01, 'Wire layout': the delimiter, the first byte of an address, a whole address read and written.
+pub mod Delimiter
+pub mod First
 pub mod Address

@@ -1,13 +1,13 @@
 // Addresses: one byte or five on the line.
-use fields::MasterRole;
-use fields::burst_bit;
-use fields::burst_of;
-use fields::consts::address::MANUFACTURER_ID_MASK;
-use fields::consts::address::SHORT_ADDRESS_MASK;
-use fields::manufacturer_of;
-use fields::master_bit;
-use fields::master_of;
-use fields::polling_of;
+use crate::consts::address::MANUFACTURER_ID_MASK;
+use crate::consts::address::SHORT_ADDRESS_MASK;
+use crate::first::MasterRole;
+use crate::first::burst_bit;
+use crate::first::burst_of;
+use crate::first::manufacturer_of;
+use crate::first::master_bit;
+use crate::first::master_of;
+use crate::first::polling_of;
 use octets::decode_u24_be;
 use octets::encode_u24_be;
 use refusal::Refusal;

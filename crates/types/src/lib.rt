@@ -1,13 +1,17 @@
-// What a frame is made of, as callers see it (types.rs and consts.rs).
+// What a frame is made of (types.rs), and the numbers of consts.rs: the delimiter and the frame's type,
+// addresses, the two status bytes of a response.
 mod address;
+pub mod consts;
+mod delimiter;
+mod first;
+mod status;
 
 pub use address::Address;
 pub use address::AddressRead;
 pub use address::address_length;
-pub use fields::Delimiter;
-pub use fields::FrameType;
-pub use fields::MasterRole;
-pub use fields::consts;
-pub use fields::delimiter_byte;
-pub use fields::read_delimiter;
+pub use delimiter::Delimiter;
+pub use delimiter::FrameType;
+pub use delimiter::delimiter_byte;
+pub use delimiter::read_delimiter;
+pub use first::MasterRole;
 pub use status::ResponseStatus;

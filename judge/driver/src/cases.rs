@@ -1,13 +1,15 @@
-//! The format that the programs under comparison share: a case is a line, its answer is a line.
-//! judge/README.md says it in words.
+//! The cases that the programs under comparison share: a case is a line. judge/README.md says it in
+//! words; answers.rs has the other half of the format.
 
 use std::fmt;
 use std::io::{self, BufRead};
 
-/// The most bytes that a case may have.
+/// The most bytes that a case may have; a remark may have more.
 pub const MOST_BYTES: usize = 4096;
-/// The longest buffer that a case may hand over.
+/// The longest buffer or block that a case may hand over.
 pub const MOST_ROOM: usize = 1024;
+/// The bytes of address and data that a decoder holds.
+pub const HELD_BYTES: usize = 5 + 255;
 
 /// The three ways to feed a decoder, each with a decoder of its own.
 #[derive(Clone, Copy, Debug, PartialEq)]
@@ -19,6 +21,15 @@ pub enum Way {
 
 pub const WAYS: [Way; 3] = [Way::Value, Way::Lent, Way::Block];
 
+/// The two modes of packed text, and of the commands that document 01 reads in two ways.
+#[derive(Clone, Copy, Debug, PartialEq)]
+pub enum Mode {
+    Crate,
+    Standard,
+}
+
+pub const MODES: [Mode; 2] = [Mode::Crate, Mode::Standard];
+
 #[derive(Clone, Copy, Debug, PartialEq)]
 pub enum FrameType {
     Request,
@@ -27,6 +38,39 @@ pub enum FrameType {
 }
 
 pub const FRAME_TYPES: [FrameType; 3] = [FrameType::Request, FrameType::Response, FrameType::Burst];
+
+/// What a decoder waits for, by the numbers of the state block.
+#[derive(Clone, Copy, Debug, PartialEq, PartialOrd)]
+pub enum Phase {
+    Hunting,
+    Preamble,
+    Address,
+    Command,
+    ByteCount,
+    Data,
+    Check,
+}
+
+pub const PHASES: [Phase; 7] = [
+    Phase::Hunting,
+    Phase::Preamble,
+    Phase::Address,
+    Phase::Command,
+    Phase::ByteCount,
+    Phase::Data,
+    Phase::Check,
+];
+
+/// The commands whose responses are read straight from a frame.
+#[derive(Clone, Copy, Debug, PartialEq)]
+pub enum Reader {
+    DeviceVariables,
+    IdentityByTag,
+    TagDescriptorDate,
+}
+
+pub const READERS: [Reader; 3] =
+    [Reader::DeviceVariables, Reader::IdentityByTag, Reader::TagDescriptorDate];
 
 /// An address. A short one has a polling address; a long one a manufacturer, a device type and a
 /// device number. Fields may be larger than the wire has bits for.
@@ -52,94 +96,97 @@ pub struct TagDescriptorDate {
     pub date: [u8; 3],
 }
 
+/// The value that a decoder is to have. Fields that its phase does not have mean nothing.
+#[derive(Clone, Debug, PartialEq)]
+pub struct DecoderValue {
+    pub phase: Phase,
+    pub frame_type: FrameType,
+    pub long: bool,
+    /// The running check.
+    pub check: u8,
+    /// Preamble bytes, address bytes or data bytes so far, as the phase has it.
+    pub count: u8,
+    pub command: u8,
+    /// The data bytes expected.
+    pub expected: u8,
+    /// Those of the address, then of the data; zeros where they are not given.
+    pub bytes: Vec<u8>,
+}
+
+/// A frame as a typed reading takes it.
+#[derive(Clone, Debug, PartialEq)]
+pub struct Carrier {
+    pub frame_type: FrameType,
+    pub command: u8,
+    pub data: Vec<u8>,
+}
+
 /// One call, or for `Feed` one call for each byte.
 #[derive(Clone, Debug, PartialEq)]
 pub enum Case {
+    /// No call: a line for people.
+    Remark,
     New,
     Reset,
     Feed(Way, Vec<u8>),
+    /// The decoders by value and lent become this value.
+    Become(DecoderValue),
     WriteAddress(Address, usize),
-    ReadAddress { long: bool, bytes: Vec<u8> },
-    WriteFrame { frame: Frame, preambles: u8, room: usize },
-    Pack { room: usize, text: Vec<u8> },
-    Unpack { room: usize, packed: Vec<u8> },
+    ReadAddress {
+        long: bool,
+        bytes: Vec<u8>,
+    },
+    WriteFrame {
+        frame: Frame,
+        preambles: u8,
+        room: usize,
+    },
+    Pack {
+        mode: Mode,
+        room: usize,
+        text: Vec<u8>,
+    },
+    Unpack {
+        mode: Mode,
+        room: usize,
+        packed: Vec<u8>,
+    },
     Status([u8; 2]),
     Identity(Vec<u8>),
-    WriteCodes { room: usize, codes: Vec<u8> },
-    ReadVariables(Vec<u8>),
-    WriteTag { room: usize, tag: [u8; 8] },
-    ReadIdentityByTag(Vec<u8>),
-    ReadTag([u8; 6]),
-    WriteTagDescriptorDate { room: usize, fields: TagDescriptorDate },
-    ReadTagDescriptorDate(Vec<u8>),
-}
-
-/// What a decoder says at one byte of a line.
-#[derive(Clone, Debug, PartialEq)]
-pub enum Heard {
-    Frame(Frame),
-    BadDelimiter(u8),
-    BadCheck { expected: u8, actual: u8 },
-    OtherRefusal(u8),
-}
-
-/// How a call that writes into a buffer ended.
-#[derive(Clone, Copy, Debug, PartialEq)]
-pub enum Ending {
-    Count(usize),
-    Refused(u8),
-    Stops,
-}
-
-/// Document 01's identity, field by field.
-#[derive(Clone, Debug, PartialEq)]
-pub struct Identity {
-    pub expansion: u8,
-    pub device_type: u16,
-    pub minimum_preambles: u8,
-    pub hart_revision: u8,
-    pub device_revision: u8,
-    pub software_revision: u8,
-    pub hardware_revision: u8,
-    pub signalling: u8,
-    pub flags: u8,
-    pub number: u32,
-}
-
-/// A device variable; the value as the 32 bits of its float.
-#[derive(Clone, Debug, PartialEq)]
-pub struct Variable {
-    pub code: u8,
-    pub class: u8,
-    pub unit: u8,
-    pub value: u32,
-    pub status: u8,
-}
-
-#[derive(Clone, Debug, PartialEq)]
-pub enum Answer {
-    /// New decoders, or reset ones.
-    Done,
-    /// What was heard, each with the place of its byte in the line, and whether the next call stopped.
-    Heard {
-        events: Vec<(usize, Heard)>,
-        stops: bool,
+    WriteCodes {
+        room: usize,
+        codes: Vec<u8>,
     },
-    /// The ending of a call and the whole buffer after it.
-    Written(Ending, Vec<u8>),
-    /// The bytes used, and the address.
-    Address(usize, Address),
-    /// Error, malfunction, configuration changed, cold start, more status, out of limits.
-    Status([bool; 6]),
-    Identity(Identity),
-    Variables(Vec<Variable>),
-    Tag([u8; 8]),
-    TagDescriptorDate(TagDescriptorDate),
-    Refused(u8),
-    /// The call did not complete, or the program's types have no such call.
-    Stops,
-    /// The line is no case.
-    NoCase,
+    ReadVariables(Mode, Vec<u8>),
+    /// The reading of a device variable of these bytes.
+    Worth([u8; 8]),
+    WriteTag {
+        mode: Mode,
+        room: usize,
+        tag: [u8; 8],
+    },
+    ReadIdentityByTag(Vec<u8>),
+    ReadTag(Mode, [u8; 6]),
+    WriteTagDescriptorDate {
+        mode: Mode,
+        room: usize,
+        fields: TagDescriptorDate,
+    },
+    ReadTagDescriptorDate(Mode, Vec<u8>),
+    Payload(FrameType, Vec<u8>),
+    ReadFrame(Mode, Reader, Carrier),
+    /// The C call for one byte, over a block and a room of the case's own.
+    FeedBlock {
+        room: usize,
+        byte: u8,
+        block: Vec<u8>,
+    },
+    ClearBlock(Vec<u8>),
+    Constants,
+    /// The dump takes these bytes, as one read.
+    Dump(Vec<u8>),
+    /// The dump's last line, as it would be now.
+    EndOfDump,
 }
 
 /// The buffer that a call is handed, as it is before the call.
@@ -166,8 +213,46 @@ impl FrameType {
         }
     }
 
-    fn from_number(number: u8) -> Option<FrameType> {
+    pub fn from_number(number: u8) -> Option<FrameType> {
         FRAME_TYPES.get(usize::from(number)).copied()
+    }
+}
+
+impl Mode {
+    /// The letter of crate mode, in upper case for the same call in standard mode.
+    fn letter(self, letter: char) -> char {
+        match self {
+            Mode::Crate => letter,
+            Mode::Standard => letter.to_ascii_uppercase(),
+        }
+    }
+
+    fn of_letter(letter: u8) -> Mode {
+        if letter.is_ascii_uppercase() {
+            Mode::Standard
+        } else {
+            Mode::Crate
+        }
+    }
+}
+
+impl Phase {
+    pub fn from_number(number: u8) -> Option<Phase> {
+        PHASES.get(usize::from(number)).copied()
+    }
+}
+
+impl Reader {
+    pub fn command(self) -> u8 {
+        match self {
+            Reader::DeviceVariables => 9,
+            Reader::IdentityByTag => 11,
+            Reader::TagDescriptorDate => 18,
+        }
+    }
+
+    fn from_command(command: u8) -> Option<Reader> {
+        READERS.into_iter().find(|reader| reader.command() == command)
     }
 }
 
@@ -177,7 +262,7 @@ impl Address {
     }
 
     /// The seven bytes K X T N N N N.
-    fn as_seven(&self) -> [u8; 7] {
+    pub fn as_seven(&self) -> [u8; 7] {
         let flags = |primary, burst| 2 * u8::from(primary) + 4 * u8::from(burst);
         match *self {
             Address::Short { primary, burst, polling } => {
@@ -209,29 +294,17 @@ impl Address {
     }
 }
 
-impl Identity {
-    fn as_bytes(&self) -> Vec<u8> {
-        let mut bytes = vec![self.expansion];
-        bytes.extend(self.device_type.to_be_bytes());
-        bytes.extend([self.minimum_preambles, self.hart_revision, self.device_revision]);
-        bytes.extend([self.software_revision, self.hardware_revision, self.signalling, self.flags]);
-        bytes.extend(self.number.to_be_bytes());
-        bytes
-    }
-}
-
-impl Variable {
-    fn as_bytes(&self) -> Vec<u8> {
-        let mut bytes = vec![self.code, self.class, self.unit];
-        bytes.extend(self.value.to_be_bytes());
-        bytes.push(self.status);
-        bytes
-    }
-}
-
 impl TagDescriptorDate {
-    fn as_bytes(&self) -> Vec<u8> {
+    pub fn as_bytes(&self) -> Vec<u8> {
         [&self.tag[..], &self.descriptor, &self.date].concat()
+    }
+}
+
+impl DecoderValue {
+    fn as_bytes(&self) -> Vec<u8> {
+        let type_and_long = [self.frame_type.number(), u8::from(self.long)];
+        let numbers = [self.check, self.count, self.command, self.expected];
+        [&[self.phase as u8], &type_and_long[..], &numbers, &self.bytes].concat()
     }
 }
 
@@ -260,12 +333,33 @@ impl Fields {
         (room <= MOST_ROOM).then_some(room)
     }
 
+    fn flag(&mut self) -> Option<bool> {
+        match self.byte()? {
+            0 => Some(false),
+            1 => Some(true),
+            _ => None,
+        }
+    }
+
+    fn mode(&mut self) -> Option<Mode> {
+        self.flag().map(|standard| if standard { Mode::Standard } else { Mode::Crate })
+    }
+
+    fn frame_type(&mut self) -> Option<FrameType> {
+        FrameType::from_number(self.byte()?)
+    }
+
     fn address(&mut self) -> Option<Address> {
         Address::from_seven(self.bytes()?)
     }
 
     fn rest(&mut self) -> Vec<u8> {
         self.0.by_ref().collect()
+    }
+
+    fn rest_up_to(&mut self, most: usize) -> Option<Vec<u8>> {
+        let rest = self.rest();
+        (rest.len() <= most).then_some(rest)
     }
 }
 
@@ -294,6 +388,9 @@ pub fn letter_and_bytes(line: &[u8]) -> Option<(u8, Vec<u8>)> {
 
 /// The case that a line says, if it says one.
 pub fn parse(line: &[u8]) -> Option<Case> {
+    if line.first() == Some(&b'#') {
+        return Some(Case::Remark);
+    }
     let (letter, bytes) = letter_and_bytes(line)?;
     let mut fields = Fields(bytes.into_iter());
     let case = case_of(letter, &mut fields)?;
@@ -301,23 +398,27 @@ pub fn parse(line: &[u8]) -> Option<Case> {
 }
 
 fn case_of(letter: u8, fields: &mut Fields) -> Option<Case> {
+    let mode = Mode::of_letter(letter);
     Some(match letter {
         b'n' => Case::New,
         b'r' => Case::Reset,
         b'v' => Case::Feed(Way::Value, fields.rest()),
         b'l' => Case::Feed(Way::Lent, fields.rest()),
         b'b' => Case::Feed(Way::Block, fields.rest()),
+        b'z' => Case::Become(DecoderValue {
+            phase: Phase::from_number(fields.byte()?)?,
+            frame_type: fields.frame_type()?,
+            long: fields.flag()?,
+            check: fields.byte()?,
+            count: fields.byte()?,
+            command: fields.byte()?,
+            expected: fields.byte()?,
+            bytes: fields.rest_up_to(HELD_BYTES)?,
+        }),
         b'w' => Case::WriteAddress(fields.address()?, fields.short_room()?),
-        b'a' => {
-            let long = match fields.byte()? {
-                0 => false,
-                1 => true,
-                _ => return None,
-            };
-            Case::ReadAddress { long, bytes: fields.rest() }
-        }
+        b'a' => Case::ReadAddress { long: fields.flag()?, bytes: fields.rest() },
         b'e' => {
-            let frame_type = FrameType::from_number(fields.byte()?)?;
+            let frame_type = fields.frame_type()?;
             let address = fields.address()?;
             let command = fields.byte()?;
             let preambles = fields.byte()?;
@@ -325,16 +426,18 @@ fn case_of(letter: u8, fields: &mut Fields) -> Option<Case> {
             let frame = Frame { frame_type, address, command, data: fields.rest() };
             Case::WriteFrame { frame, preambles, room }
         }
-        b'p' => Case::Pack { room: fields.room()?, text: fields.rest() },
-        b'u' => Case::Unpack { room: fields.room()?, packed: fields.rest() },
+        b'p' | b'P' => Case::Pack { mode, room: fields.room()?, text: fields.rest() },
+        b'u' | b'U' => Case::Unpack { mode, room: fields.room()?, packed: fields.rest() },
         b's' => Case::Status(fields.bytes()?),
         b'i' => Case::Identity(fields.rest()),
         b'q' => Case::WriteCodes { room: fields.short_room()?, codes: fields.rest() },
-        b'g' => Case::ReadVariables(fields.rest()),
-        b't' => Case::WriteTag { room: fields.short_room()?, tag: fields.bytes()? },
+        b'g' | b'G' => Case::ReadVariables(mode, fields.rest()),
+        b'm' => Case::Worth(fields.bytes()?),
+        b't' | b'T' => Case::WriteTag { mode, room: fields.short_room()?, tag: fields.bytes()? },
         b'j' => Case::ReadIdentityByTag(fields.rest()),
-        b'k' => Case::ReadTag(fields.bytes()?),
-        b'd' => Case::WriteTagDescriptorDate {
+        b'k' | b'K' => Case::ReadTag(mode, fields.bytes()?),
+        b'd' | b'D' => Case::WriteTagDescriptorDate {
+            mode,
             room: fields.short_room()?,
             fields: TagDescriptorDate {
                 tag: fields.bytes()?,
@@ -342,7 +445,24 @@ fn case_of(letter: u8, fields: &mut Fields) -> Option<Case> {
                 date: fields.bytes()?,
             },
         },
-        b'h' => Case::ReadTagDescriptorDate(fields.rest()),
+        b'h' | b'H' => Case::ReadTagDescriptorDate(mode, fields.rest()),
+        b'y' => Case::Payload(fields.frame_type()?, fields.rest()),
+        b'f' => {
+            let mode = fields.mode()?;
+            let reader = Reader::from_command(fields.byte()?)?;
+            let frame_type = fields.frame_type()?;
+            let command = fields.byte()?;
+            Case::ReadFrame(mode, reader, Carrier { frame_type, command, data: fields.rest() })
+        }
+        b'o' => Case::FeedBlock {
+            room: fields.room()?,
+            byte: fields.byte()?,
+            block: fields.rest_up_to(MOST_ROOM)?,
+        },
+        b'c' => Case::ClearBlock(fields.rest_up_to(MOST_ROOM)?),
+        b'x' => Case::Constants,
+        b'A' => Case::Dump(fields.rest()),
+        b'E' => Case::EndOfDump,
         _ => return None,
     })
 }
@@ -364,35 +484,50 @@ fn bytes_of(digits: &[u8]) -> Option<Vec<u8>> {
 impl Case {
     pub fn letter(&self) -> char {
         match self {
+            Case::Remark => '#',
             Case::New => 'n',
             Case::Reset => 'r',
             Case::Feed(way, _) => way.letter(),
+            Case::Become(_) => 'z',
             Case::WriteAddress(..) => 'w',
             Case::ReadAddress { .. } => 'a',
             Case::WriteFrame { .. } => 'e',
-            Case::Pack { .. } => 'p',
-            Case::Unpack { .. } => 'u',
+            Case::Pack { mode, .. } => mode.letter('p'),
+            Case::Unpack { mode, .. } => mode.letter('u'),
             Case::Status(_) => 's',
             Case::Identity(_) => 'i',
             Case::WriteCodes { .. } => 'q',
-            Case::ReadVariables(_) => 'g',
-            Case::WriteTag { .. } => 't',
+            Case::ReadVariables(mode, _) => mode.letter('g'),
+            Case::Worth(_) => 'm',
+            Case::WriteTag { mode, .. } => mode.letter('t'),
             Case::ReadIdentityByTag(_) => 'j',
-            Case::ReadTag(_) => 'k',
-            Case::WriteTagDescriptorDate { .. } => 'd',
-            Case::ReadTagDescriptorDate(_) => 'h',
+            Case::ReadTag(mode, _) => mode.letter('k'),
+            Case::WriteTagDescriptorDate { mode, .. } => mode.letter('d'),
+            Case::ReadTagDescriptorDate(mode, _) => mode.letter('h'),
+            Case::Payload(..) => 'y',
+            Case::ReadFrame(..) => 'f',
+            Case::FeedBlock { .. } => 'o',
+            Case::ClearBlock(_) => 'c',
+            Case::Constants => 'x',
+            Case::Dump(_) => 'A',
+            Case::EndOfDump => 'E',
         }
     }
 
     fn as_bytes(&self) -> Vec<u8> {
         let word = |room: usize| (room as u16).to_be_bytes();
         match self {
-            Case::New | Case::Reset => Vec::new(),
+            Case::Remark | Case::New | Case::Reset | Case::Constants | Case::EndOfDump => {
+                Vec::new()
+            }
             Case::Feed(_, bytes)
             | Case::Identity(bytes)
-            | Case::ReadVariables(bytes)
+            | Case::ReadVariables(_, bytes)
             | Case::ReadIdentityByTag(bytes)
-            | Case::ReadTagDescriptorDate(bytes) => bytes.clone(),
+            | Case::ReadTagDescriptorDate(_, bytes)
+            | Case::ClearBlock(bytes)
+            | Case::Dump(bytes) => bytes.clone(),
+            Case::Become(value) => value.as_bytes(),
             Case::WriteAddress(address, room) => [&address.as_seven()[..], &[*room as u8]].concat(),
             Case::ReadAddress { long, bytes } => [&[u8::from(*long)], &bytes[..]].concat(),
             Case::WriteFrame { frame, preambles, room } => [
@@ -403,15 +538,24 @@ impl Case {
                 &frame.data,
             ]
             .concat(),
-            Case::Pack { room, text: bytes } | Case::Unpack { room, packed: bytes } => {
+            Case::Pack { room, text: bytes, .. } | Case::Unpack { room, packed: bytes, .. } => {
                 [&word(*room), &bytes[..]].concat()
             }
             Case::Status(bytes) => bytes.to_vec(),
             Case::WriteCodes { room, codes } => [&[*room as u8], &codes[..]].concat(),
-            Case::WriteTag { room, tag } => [&[*room as u8], &tag[..]].concat(),
-            Case::ReadTag(packed) => packed.to_vec(),
-            Case::WriteTagDescriptorDate { room, fields } => {
+            Case::Worth(group) => group.to_vec(),
+            Case::WriteTag { room, tag, .. } => [&[*room as u8], &tag[..]].concat(),
+            Case::ReadTag(_, packed) => packed.to_vec(),
+            Case::WriteTagDescriptorDate { room, fields, .. } => {
                 [&[*room as u8], &fields.as_bytes()[..]].concat()
+            }
+            Case::Payload(frame_type, data) => [&[frame_type.number()], &data[..]].concat(),
+            Case::ReadFrame(mode, reader, Carrier { frame_type, command, data }) => {
+                let head = [*mode as u8, reader.command(), frame_type.number(), *command];
+                [&head, &data[..]].concat()
+            }
+            Case::FeedBlock { room, byte, block } => {
+                [&word(*room)[..], &[*byte], &block[..]].concat()
             }
         }
     }
@@ -428,72 +572,6 @@ impl fmt::Display for Case {
     }
 }
 
-impl Answer {
-    /// Whether the program completed the call.
-    pub fn is_whole(&self) -> bool {
-        let stopped = matches!(
-            self,
-            Answer::Stops | Answer::Heard { stops: true, .. } | Answer::Written(Ending::Stops, _)
-        );
-        !stopped
-    }
-}
-
-impl fmt::Display for Answer {
-    fn fmt(&self, f: &mut fmt::Formatter) -> fmt::Result {
-        match self {
-            Answer::Done => f.write_str("."),
-            Answer::Heard { events, stops } => show_heard(f, events, *stops),
-            Answer::Written(Ending::Count(count), room) => {
-                write!(f, "{count} {}", hex_or_dash(room))
-            }
-            Answer::Written(Ending::Refused(number), room) => {
-                write!(f, "!{number} {}", hex_or_dash(room))
-            }
-            Answer::Written(Ending::Stops, room) => write!(f, "stops {}", hex_or_dash(room)),
-            Answer::Address(used, address) => write!(f, "{used} {}", hex(&address.as_seven())),
-            Answer::Status(flags) => {
-                flags.iter().try_for_each(|&flag| f.write_str(if flag { "1" } else { "0" }))
-            }
-            Answer::Identity(identity) => f.write_str(&hex(&identity.as_bytes())),
-            Answer::Variables(variables) => {
-                let bytes: Vec<u8> = variables.iter().flat_map(Variable::as_bytes).collect();
-                write!(f, "{} {}", variables.len(), hex_or_dash(&bytes))
-            }
-            Answer::Tag(tag) => f.write_str(&hex(tag)),
-            Answer::TagDescriptorDate(fields) => f.write_str(&hex(&fields.as_bytes())),
-            Answer::Refused(number) => write!(f, "!{number}"),
-            Answer::Stops => f.write_str("stops"),
-            Answer::NoCase => f.write_str("?"),
-        }
-    }
-}
-
-fn show_heard(f: &mut fmt::Formatter, events: &[(usize, Heard)], stops: bool) -> fmt::Result {
-    let mut tokens: Vec<String> =
-        events.iter().map(|(place, heard)| token(*place, heard)).collect();
-    if stops {
-        tokens.push("stops".into());
-    } else if tokens.is_empty() {
-        tokens.push(".".into());
-    }
-    f.write_str(&tokens.join(" "))
-}
-
-fn token(place: usize, heard: &Heard) -> String {
-    match heard {
-        Heard::Frame(frame) => {
-            let head = [frame.command, frame.data.len() as u8];
-            let bytes =
-                [&[frame.frame_type.number()], &frame.address.as_seven()[..], &head, &frame.data];
-            format!("F{place}:{}", hex(&bytes.concat()))
-        }
-        Heard::BadDelimiter(byte) => format!("D{place}:{byte:02X}"),
-        Heard::BadCheck { expected, actual } => format!("C{place}:{expected:02X}{actual:02X}"),
-        Heard::OtherRefusal(number) => format!("X{place}:{number:02X}"),
-    }
-}
-
 pub fn hex(bytes: &[u8]) -> String {
     const DIGITS: &[u8; 16] = b"0123456789ABCDEF";
     let mut text = String::with_capacity(2 * bytes.len());
@@ -504,7 +582,7 @@ pub fn hex(bytes: &[u8]) -> String {
     text
 }
 
-fn hex_or_dash(bytes: &[u8]) -> String {
+pub fn hex_or_dash(bytes: &[u8]) -> String {
     if bytes.is_empty() {
         "-".into()
     } else {

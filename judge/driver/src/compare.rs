@@ -1,12 +1,16 @@
 //! The comparison, line by line: ours against document 01 on every line, the debug build of the Rust
 //! against 01 wherever it completes, the release build against the debug one there. Where the debug
 //! build does not complete and is known not to, the release build is set beside 01 and what differs
-//! is counted; that is no failure.
+//! is counted; that is no failure. Calls that 01 adds the Rust does not have: there ours is held
+//! against 01 alone, and these lines are counted by themselves.
 
 use std::collections::BTreeMap;
 use std::io::{self, BufRead};
 
-use crate::cases::{next_line, parse, Case};
+use crate::cases::{next_line, parse, Case, Way};
+
+/// The letters of calls that document 01 adds: the Rust has none of them.
+const ADDED: &str = "PUTKDHGmyfzocAE";
 
 /// What is held against what.
 #[derive(Clone, Copy, Debug, PartialEq, Eq, PartialOrd, Ord)]
@@ -37,7 +41,7 @@ pub struct Answers<'a> {
 }
 
 /// How often a kind of difference was seen, where first, and the smallest lines that led to one: for
-/// a decoder its run from new decoders on, for another call its line.
+/// a decoder or the dump its run from new ones on, for another call its line.
 pub struct Seen {
     pub count: usize,
     pub first_line: usize,
@@ -54,6 +58,8 @@ pub struct Tally {
     pub stopped_runs: usize,
     /// Of these, what the release build did not complete either.
     pub release_stopped: usize,
+    /// Lines that document 01 alone judged, by letter.
+    pub only_rules: BTreeMap<char, usize>,
     pub seen: BTreeMap<Kind, Seen>,
 }
 
@@ -80,7 +86,7 @@ pub struct Texts<R> {
     pub release: R,
 }
 
-/// The lines that brought the decoders to where they are.
+/// The lines that brought the decoders and the dump to where they are.
 #[derive(Default)]
 struct Run {
     lines: Vec<Vec<u8>>,
@@ -121,23 +127,33 @@ impl Tally {
                 self.runs += 1;
                 *run = Run::default();
             }
-            Some(Case::Reset | Case::Feed(..)) => run.lines.push(line.to_vec()),
-            _ => {}
-        }
-        let letter = line.first().map_or(' ', |&letter| char::from(letter));
-        if stops(answers.debug) {
-            *self.stopped.entry(letter).or_default() += 1;
-            self.release_stopped += usize::from(stops(answers.release));
-            if is_feed(letter) && !run.stopped {
-                run.stopped = true;
-                self.stopped_runs += 1;
+            Some(Case::Reset | Case::Feed(..) | Case::Become(_) | Case::Dump(_)) => {
+                run.lines.push(line.to_vec());
             }
+            _ => {}
         }
         if answers.differ() {
             let lines = run.leading_to(line);
+            if stops(answers.debug) {
+                self.count_stop(run, &lines, answers);
+            }
             for kind in differences(&lines, answers) {
                 self.note(kind, lines.clone());
             }
+        }
+    }
+
+    fn count_stop(&mut self, run: &mut Run, lines: &[Vec<u8>], answers: &Answers) {
+        let letter = letter_of(lines);
+        if has_no_call(lines) {
+            *self.only_rules.entry(letter).or_default() += 1;
+            return;
+        }
+        *self.stopped.entry(letter).or_default() += 1;
+        self.release_stopped += usize::from(stops(answers.release));
+        if is_feed(letter) && !run.stopped {
+            run.stopped = true;
+            self.stopped_runs += 1;
         }
     }
 
@@ -154,14 +170,18 @@ impl Tally {
 }
 
 impl Run {
-    /// For a decoder its own lines of this run and the resets, up to this line; for another call the
-    /// line alone.
+    /// For a decoder its own lines of this run, the resets and the values that it was given, up to
+    /// this line; for the dump its own lines; for another call the line alone.
     fn leading_to(&self, line: &[u8]) -> Vec<Vec<u8>> {
+        let of_letters = |letters: &[u8]| {
+            let wanted = |earlier: &&Vec<u8>| letters.contains(&earlier[0]);
+            self.lines.iter().filter(wanted).cloned().collect::<Vec<_>>()
+        };
         match parse(line) {
-            Some(Case::Feed(..)) => {
-                let same = |earlier: &&Vec<u8>| earlier[0] == b'r' || earlier[0] == line[0];
-                self.lines.iter().filter(same).cloned().collect()
-            }
+            Some(Case::Feed(Way::Block, _)) => of_letters(b"rb"),
+            Some(Case::Feed(..)) => of_letters(&[b'r', b'z', line[0]]),
+            Some(Case::Dump(_)) => of_letters(b"A"),
+            Some(Case::EndOfDump) => [of_letters(b"A"), vec![line.to_vec()]].concat(),
             _ => vec![line.to_vec()],
         }
     }
@@ -173,17 +193,28 @@ impl Answers<'_> {
     }
 }
 
-/// A fed byte is a call, and so is every other case.
+/// A fed byte is a call, and so is every other case but a remark.
 fn calls_of(case: Option<&Case>) -> usize {
     match case {
         Some(Case::Feed(_, bytes)) => bytes.len(),
+        None | Some(Case::Remark) => 0,
         Some(_) => 1,
-        None => 0,
     }
+}
+
+/// The letter of the last of these lines.
+fn letter_of(lines: &[Vec<u8>]) -> char {
+    let first = lines.last().and_then(|line| line.first());
+    first.map_or(' ', |&letter| char::from(letter))
 }
 
 pub fn is_feed(letter: char) -> bool {
     matches!(letter, 'v' | 'l' | 'b')
+}
+
+/// Whether a line of this letter goes on with the run of the one before.
+pub fn takes_runs(letter: char) -> bool {
+    is_feed(letter) || letter == 'A'
 }
 
 fn tokens(answer: &[u8]) -> Vec<&[u8]> {
@@ -202,6 +233,14 @@ fn right_until_it_stops(rules: Option<&[u8]>, debug: Option<&[u8]>) -> bool {
     let (rules, debug) = (tokens(rules), tokens(debug));
     let heard = debug.iter().take_while(|&&token| token != b"stops").count();
     rules.starts_with(&debug[..heard])
+}
+
+/// Whether the last of these lines is a call that the Rust does not have, or feeds a decoder that was
+/// given a value, which it cannot be there.
+fn has_no_call(lines: &[Vec<u8>]) -> bool {
+    let letter = letter_of(lines);
+    let is_value = |line: &Vec<u8>| line.first() == Some(&b'z');
+    ADDED.contains(letter) || (is_feed(letter) && lines.iter().any(is_value))
 }
 
 /// Where the Rust is known to stop: an address that does not fit, more codes than its types take, and
@@ -235,15 +274,18 @@ fn is_known_to_stop(lines: &[Vec<u8>]) -> bool {
 /// What differs in the last of these lines, which started from new decoders.
 pub fn differences(lines: &[Vec<u8>], answers: &Answers) -> Vec<Kind> {
     let Answers { rules, ours, debug, release } = *answers;
-    let first = lines.last().and_then(|line| line.first());
-    let letter = first.map_or(' ', |&letter| char::from(letter));
+    let letter = letter_of(lines);
     // The Rust has one way to feed: its three decoders are of one kind.
     let rust_letter = if is_feed(letter) { 'v' } else { letter };
     let mut found = Vec::new();
     if ours != rules {
         found.push(kind(Check::OursIsRules, letter, rules, ours));
     }
-    if stops(debug) {
+    if stops(debug) && has_no_call(lines) {
+        if release != debug {
+            found.push(kind(Check::ReleaseIsDebug, rust_letter, debug, release));
+        }
+    } else if stops(debug) {
         if !is_known_to_stop(lines) || !right_until_it_stops(rules, debug) {
             found.push(kind(Check::DebugIsRules, rust_letter, rules, debug));
         }
@@ -290,7 +332,7 @@ fn sort_of(letter: char, token: Option<&[u8]>) -> &'static str {
         (Some(b's'), _) => "a stop",
         (Some(b'?'), _) => "no case",
         (Some(b'!'), _) => "a refusal",
-        (None, true) | (Some(b'.'), true) => "silence",
+        (None, true) | (Some(b'.'), _) => "silence",
         (Some(b'F'), true) => "a frame",
         (Some(b'D'), true) => "refusal 4",
         (Some(b'C'), true) => "refusal 5",

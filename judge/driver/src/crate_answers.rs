@@ -13,13 +13,12 @@ use hart_protocol::commands::write_tag_descriptor_date::{
     WriteTagDescriptorDateRequest, WriteTagDescriptorDateResponse,
 };
 use hart_protocol::commands::{CommandRequest, CommandResponse};
+use hart_protocol::consts;
 use hart_protocol::packed_string::{decode_packed, encode_packed};
 use hart_protocol::{encode_frame, DecodeError, Decoder, EncodeError, MasterRole, ResponseStatus};
 
-use crate::cases::{
-    fresh_room, Address, Answer, Case, Ending, Frame, FrameType, Heard, Identity,
-    TagDescriptorDate, Variable,
-};
+use crate::answers::{Answer, Ending, Heard, Identity, Refusal, Variable};
+use crate::cases::{fresh_room, Address, Case, Frame, FrameType, Mode, TagDescriptorDate, Way};
 
 /// The identity in a response of command 0 or 11: two types with the same fields.
 macro_rules! identity_of {
@@ -53,6 +52,7 @@ impl Crate {
 
     pub fn answer(&mut self, case: &Case) -> Answer {
         match case {
+            Case::Remark => Answer::Remark,
             Case::New => {
                 self.decoders = new_decoders();
                 Answer::Done
@@ -69,7 +69,7 @@ impl Crate {
             Case::ReadAddress { long, bytes } => {
                 match completed(|| hart_protocol::Address::decode(bytes, *long)) {
                     Some(Ok((address, used))) => Answer::Address(used, our_address(&address)),
-                    Some(Err(refusal)) => Answer::Refused(decode_number(&refusal)),
+                    Some(Err(refusal)) => Answer::Refused(our_refusal(&refusal)),
                     None => Answer::Stops,
                 }
             }
@@ -81,40 +81,68 @@ impl Crate {
                     encode_frame(frame_type, &address, command, data, *preambles, buf)
                 })
             }
-            Case::Pack { room, text } => written(*room, |buf| Ok(encode_packed(text, buf))),
-            Case::Unpack { room, packed } => written(*room, |buf| Ok(decode_packed(packed, buf))),
+            Case::Pack { mode: Mode::Crate, room, text } => {
+                written(*room, |buf| Ok(encode_packed(text, buf)))
+            }
+            Case::Unpack { mode: Mode::Crate, room, packed } => {
+                written(*room, |buf| Ok(decode_packed(packed, buf)))
+            }
             Case::Status(bytes) => status(*bytes),
             Case::Identity(data) => {
                 read(data, |r: ReadDeviceIdResponse| Answer::Identity(identity_of!(r)))
             }
             Case::WriteCodes { room, codes } => write_codes(*room, codes),
-            Case::ReadVariables(data) => read(data, |r: ReadDeviceVarsResponse| {
+            Case::ReadVariables(Mode::Crate, data) => read(data, |r: ReadDeviceVarsResponse| {
                 Answer::Variables(r.variables.iter().map(our_variable).collect())
             }),
-            Case::WriteTag { room, tag } => {
+            Case::WriteTag { mode: Mode::Crate, room, tag } => {
                 let request = ReadUniqueIdByTagRequest { tag: *tag };
                 written(*room, |buf| request.encode_data(buf))
             }
             Case::ReadIdentityByTag(data) => {
                 read(data, |r: ReadUniqueIdByTagResponse| Answer::Identity(identity_of!(r)))
             }
-            Case::ReadTag(packed) => match completed(|| decode_tag(packed)) {
+            Case::ReadTag(Mode::Crate, packed) => match completed(|| decode_tag(packed)) {
                 Some(tag) => Answer::Tag(tag),
                 None => Answer::Stops,
             },
-            Case::WriteTagDescriptorDate { room, fields } => {
+            Case::WriteTagDescriptorDate { mode: Mode::Crate, room, fields } => {
                 let [day, month, year] = fields.date;
                 let (tag, descriptor) = (fields.tag, fields.descriptor);
                 let request = WriteTagDescriptorDateRequest { tag, descriptor, day, month, year };
                 written(*room, |buf| request.encode_data(buf))
             }
-            Case::ReadTagDescriptorDate(data) => read(data, |r: WriteTagDescriptorDateResponse| {
-                Answer::TagDescriptorDate(TagDescriptorDate {
-                    tag: r.tag,
-                    descriptor: r.descriptor,
-                    date: [r.day, r.month, r.year],
+            Case::ReadTagDescriptorDate(Mode::Crate, data) => {
+                read(data, |r: WriteTagDescriptorDateResponse| {
+                    Answer::TagDescriptorDate(TagDescriptorDate {
+                        tag: r.tag,
+                        descriptor: r.descriptor,
+                        date: [r.day, r.month, r.year],
+                    })
                 })
-            }),
+            }
+            Case::Constants => Answer::Constants(constants()),
+            // Nobody can give the crate's decoder a value: the two are gone.
+            Case::Become(_) => {
+                self.decoders[Way::Value as usize] = None;
+                self.decoders[Way::Lent as usize] = None;
+                Answer::Stops
+            }
+            // What document 01 adds, of which the crate has no call.
+            Case::Pack { mode: Mode::Standard, .. }
+            | Case::Unpack { mode: Mode::Standard, .. }
+            | Case::ReadVariables(Mode::Standard, _)
+            | Case::Worth(_)
+            | Case::WriteTag { mode: Mode::Standard, .. }
+            | Case::ReadTag(Mode::Standard, _)
+            | Case::WriteTagDescriptorDate { mode: Mode::Standard, .. }
+            | Case::ReadTagDescriptorDate(Mode::Standard, _)
+            | Case::Payload(..)
+            | Case::ReadFrame(..)
+            | Case::FeedBlock { .. }
+            | Case::ClearBlock(_)
+            | Case::Dump(_)
+            | Case::EndOfDump => Answer::Stops,
         }
     }
 }
@@ -146,7 +174,9 @@ fn feed(decoder: &mut Option<Decoder>, bytes: &[u8]) -> Answer {
         match completed(|| whole.feed(byte)) {
             Some(Ok(None)) => {}
             Some(Ok(Some(frame))) => events.push((place, Heard::Frame(our_frame(&frame)))),
-            Some(Err(refusal)) => events.push((place, our_refusal(&refusal))),
+            Some(Err(refusal)) => {
+                events.push((place, Heard::Refused(our_refusal(&refusal))));
+            }
             None => *decoder = None,
         }
     }
@@ -158,8 +188,8 @@ fn written(room: usize, call: impl FnOnce(&mut [u8]) -> Result<usize, EncodeErro
     let mut buf = fresh_room(room);
     let ending = match completed(|| call(&mut buf)) {
         Some(Ok(count)) => Ending::Count(count),
-        Some(Err(EncodeError::DataTooLong)) => Ending::Refused(1),
-        Some(Err(EncodeError::BufferTooSmall)) => Ending::Refused(2),
+        Some(Err(EncodeError::DataTooLong)) => Ending::Refused(Refusal::DataTooLong),
+        Some(Err(EncodeError::BufferTooSmall)) => Ending::Refused(Refusal::BufferTooSmall),
         None => Ending::Stops,
     };
     Answer::Written(ending, buf)
@@ -168,7 +198,7 @@ fn written(room: usize, call: impl FnOnce(&mut [u8]) -> Result<usize, EncodeErro
 fn read<R: CommandResponse>(data: &[u8], show: impl FnOnce(R) -> Answer) -> Answer {
     match completed(|| R::decode_data(data)) {
         Some(Ok(response)) => show(response),
-        Some(Err(refusal)) => Answer::Refused(decode_number(&refusal)),
+        Some(Err(refusal)) => Answer::Refused(our_refusal(&refusal)),
         None => Answer::Stops,
     }
 }
@@ -200,21 +230,67 @@ fn status(bytes: [u8; 2]) -> Answer {
     flags.map_or(Answer::Stops, Answer::Status)
 }
 
-/// Document 01's numbers of the crate's refusals.
-fn decode_number(refusal: &DecodeError) -> u8 {
-    match refusal {
-        DecodeError::BufferTooShort => 3,
-        DecodeError::InvalidDelimiter(_) => 4,
-        DecodeError::ChecksumMismatch { .. } => 5,
+fn our_refusal(refusal: &DecodeError) -> Refusal {
+    match *refusal {
+        DecodeError::BufferTooShort => Refusal::BufferTooShort,
+        DecodeError::InvalidDelimiter(byte) => Refusal::InvalidDelimiter(byte),
+        DecodeError::ChecksumMismatch { expected, actual } => {
+            Refusal::ChecksumMismatch { expected, actual }
+        }
     }
 }
 
-fn our_refusal(refusal: &DecodeError) -> Heard {
-    match *refusal {
-        DecodeError::InvalidDelimiter(byte) => Heard::BadDelimiter(byte),
-        DecodeError::ChecksumMismatch { expected, actual } => Heard::BadCheck { expected, actual },
-        DecodeError::BufferTooShort => Heard::OtherRefusal(decode_number(refusal)),
-    }
+/// The crate's constants but the UART times, in the order of its file.
+fn constants() -> Vec<u16> {
+    use consts::{address::*, commands::*, delimiter::*};
+    let lengths = [consts::MAX_DATA_LENGTH, consts::MAX_FRAME_LENGTH];
+    let preamble = [
+        consts::PREAMBLE_BYTE,
+        consts::MIN_PREAMBLE_COUNT,
+        consts::MAX_PREAMBLE_COUNT,
+        consts::DEFAULT_PREAMBLE_COUNT,
+    ];
+    let wire = [
+        REQUEST_SHORT,
+        REQUEST_LONG,
+        RESPONSE_SHORT,
+        RESPONSE_LONG,
+        BURST_SHORT,
+        BURST_LONG,
+        LONG_ADDRESS_BIT,
+        PRIMARY_MASTER_BIT,
+        BURST_MODE_BIT,
+        SHORT_ADDRESS_MASK,
+        MANUFACTURER_ID_MASK,
+    ];
+    let commands = [
+        READ_DEVICE_ID,
+        READ_PRIMARY_VARIABLE,
+        READ_LOOP_CURRENT_PERCENT,
+        READ_DYNAMIC_VARS,
+        WRITE_POLLING_ADDRESS,
+        READ_LOOP_CONFIG,
+        READ_DYNAMIC_VAR_CLASS,
+        READ_DEVICE_VARS_WITH_STATUS,
+        READ_UNIQUE_ID_BY_TAG,
+        READ_MESSAGE,
+        READ_TAG_DESCRIPTOR_DATE,
+        READ_PV_TRANSDUCER_INFO,
+        READ_DEVICE_INFO,
+        READ_FINAL_ASSEMBLY_NUMBER,
+        WRITE_MESSAGE,
+        WRITE_TAG_DESCRIPTOR_DATE,
+        WRITE_FINAL_ASSEMBLY_NUMBER,
+        READ_LONG_TAG,
+        READ_UNIQUE_ID_BY_LONG_TAG,
+        WRITE_LONG_TAG,
+        RESET_CONFIG_CHANGED,
+        READ_ADDITIONAL_STATUS,
+    ];
+    let mut values: Vec<u16> = preamble.map(u16::from).to_vec();
+    values.extend(lengths.map(|length| length as u16));
+    values.extend(wire.into_iter().chain(commands).map(u16::from));
+    values
 }
 
 fn our_frame(frame: &hart_protocol::RawFrame) -> Frame {

@@ -1,7 +1,11 @@
 //! Cases from a seed: calls with values around each boundary, and runs of bytes with all that a line
 //! does to frames.
 
-use crate::cases::{Address, Case, Frame, TagDescriptorDate, FRAME_TYPES, MOST_BYTES, MOST_ROOM};
+mod added;
+
+use crate::cases::{
+    Address, Case, Frame, Mode, TagDescriptorDate, FRAME_TYPES, MODES, MOST_BYTES, MOST_ROOM,
+};
 use crate::generate::{
     total, with_check_ff, Part, Sheet, FLOATS, GROUP_LENGTHS, MANUFACTURERS, NUMBERS, POLLINGS,
 };
@@ -21,6 +25,12 @@ pub fn from_seed(sheet: &mut Sheet, seed: u64, cases: usize, runs: usize) {
     for _ in 0..runs {
         let parts = random_run(random);
         sheet.run(&parts);
+        if random.once_in(4) {
+            added::dump(sheet, &parts);
+        }
+        if random.once_in(4) {
+            added::given_decoder(sheet, random);
+        }
     }
 }
 
@@ -67,7 +77,8 @@ fn random_frame(random: &mut Random, data_length: usize) -> Frame {
 }
 
 fn random_case(random: &mut Random) -> Case {
-    match random.below(14) {
+    let mode = random.one_of(&MODES);
+    match random.below(18) {
         0 => {
             let long = random.flag();
             let address = random_address(random, long);
@@ -82,12 +93,12 @@ fn random_case(random: &mut Random) -> Case {
         3 => {
             let length = random.below(40);
             let room = random.near(length.div_ceil(4) * 3);
-            Case::Pack { room, text: random.bytes(length) }
+            Case::Pack { mode, room, text: random_text(random, mode, length) }
         }
         4 => {
             let length = random.below(40);
             let room = random.near(length / 3 * 4);
-            Case::Unpack { room, packed: random.bytes(length) }
+            Case::Unpack { mode, room, packed: random.bytes(length) }
         }
         5 => Case::Status(random.array()),
         6 => {
@@ -99,23 +110,44 @@ fn random_case(random: &mut Random) -> Case {
             let room = random.near(codes);
             Case::WriteCodes { room, codes: random.bytes(codes) }
         }
-        8 => random_variables(random),
-        9 => Case::WriteTag { room: random.near(6), tag: random.array() },
+        8 => random_variables(random, mode),
+        9 => {
+            let tag = random_text_of(random, mode);
+            Case::WriteTag { mode, room: random.near(6), tag }
+        }
         10 => {
             let length = random.near(12);
             Case::ReadIdentityByTag(random.bytes(length))
         }
-        11 => Case::ReadTag(random.array()),
+        11 => Case::ReadTag(mode, random.array()),
         12 => {
-            let (tag, descriptor, date) = (random.array(), random.array(), random.array());
-            let fields = TagDescriptorDate { tag, descriptor, date };
-            Case::WriteTagDescriptorDate { room: random.near(21), fields }
+            let (tag, descriptor) = (random_text_of(random, mode), random_text_of(random, mode));
+            let fields = TagDescriptorDate { tag, descriptor, date: random.array() };
+            Case::WriteTagDescriptorDate { mode, room: random.near(21), fields }
         }
-        _ => {
+        13 => {
             let length = random.near(21);
-            Case::ReadTagDescriptorDate(random.bytes(length))
+            Case::ReadTagDescriptorDate(mode, random.bytes(length))
+        }
+        _ => added::random_case(random),
+    }
+}
+
+/// In crate mode any characters. In standard mode those that have a code, now and then one without.
+fn random_text(random: &mut Random, mode: Mode, length: usize) -> Vec<u8> {
+    let mut text = random.bytes(length);
+    if mode == Mode::Standard {
+        text.iter_mut().for_each(|character| *character = 0x20 + *character % 64);
+        if length > 0 && random.once_in(3) {
+            let place = random.below(length);
+            text[place] = random.byte();
         }
     }
+    text
+}
+
+fn random_text_of<const N: usize>(random: &mut Random, mode: Mode) -> [u8; N] {
+    random_text(random, mode, N).try_into().expect("the text has so many characters")
 }
 
 fn random_frame_case(random: &mut Random) -> Case {
@@ -131,13 +163,13 @@ fn random_frame_case(random: &mut Random) -> Case {
     Case::WriteFrame { frame, preambles, room }
 }
 
-fn random_variables(random: &mut Random) -> Case {
+fn random_variables(random: &mut Random, mode: Mode) -> Case {
     let length = if random.flag() { random.one_of(&GROUP_LENGTHS) } else { random.below(80) };
     let mut data = random.bytes(length);
     if length >= 8 && random.flag() {
         data[3..7].copy_from_slice(&random.one_of(&FLOATS).to_be_bytes());
     }
-    Case::ReadVariables(data)
+    Case::ReadVariables(mode, data)
 }
 
 /// Pieces one behind another, now and then a reset, cut into lines anywhere.

@@ -32,6 +32,11 @@ impl Sheet<'_> {
         writeln!(self.0, "{line}").expect("the cases cannot be written");
     }
 
+    /// A line for people, in front of what it is about.
+    pub fn remark(&mut self, text: &str) {
+        self.line(&format!("# {text}"));
+    }
+
     pub fn case(&mut self, case: &Case) {
         self.line(&case.to_string());
     }

@@ -1,6 +1,7 @@
 //! The Rust as a judge: answers of the crate hart-protocol and of document 01 to cases in a shared
 //! format, cases from a seed, and the comparison. judge/run calls it; judge/README.md explains.
 
+mod answers;
 mod cases;
 mod compare;
 mod crate_answers;
@@ -18,7 +19,8 @@ use std::io::{self, BufReader, BufWriter, Write};
 use std::path::Path;
 use std::process::ExitCode;
 
-use cases::{next_line, parse, Answer, Case};
+use answers::Answer;
+use cases::{next_line, parse, Case};
 use compare::{compare, Texts};
 use crate_answers::Crate;
 use generate::Sheet;
@@ -54,11 +56,11 @@ fn run(arguments: &[&str]) -> io::Result<ExitCode> {
             answer_input(|case| rust.answer(case))
         }
         ["rules"] => {
-            let mut rules = Rules::default();
+            let mut rules = Rules::new();
             answer_input(|case| rules.answer(case))
         }
         ["expected"] => {
-            let (mut rust, mut rules) = (Crate::new(), Rules::default());
+            let (mut rust, mut rules) = (Crate::new(), Rules::new());
             answer_input(|case| {
                 let (said, expected) = (rust.answer(case), rules.answer(case));
                 if said.is_whole() {

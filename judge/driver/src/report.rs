@@ -9,7 +9,8 @@ use crate::shrink::{as_cases, shown, smallest, Programs};
 pub fn report(tally: &Tally, programs: &Programs) -> (String, String) {
     let mut text = String::new();
     let mut cases = String::new();
-    let completed = tally.lines - tally.stopped.values().sum::<usize>();
+    let only_rules = tally.only_rules.values().sum::<usize>();
+    let completed = tally.lines - only_rules - tally.stopped.values().sum::<usize>();
     let mut section = |head: String, check: Check| {
         writeln!(text, "{head}").expect("a string takes all");
         for (kind, seen) in tally.seen.iter().filter(|(kind, _)| kind.check == check) {
@@ -43,11 +44,30 @@ pub fn report(tally: &Tally, programs: &Programs) -> (String, String) {
         ),
         Check::ReleaseBesideRules,
     );
+    let judged = only_rules_by_letter(tally);
+    writeln!(
+        text,
+        "of calls that the Rust does not have, judged by 01 alone: {only_rules} lines{judged}"
+    )
+    .expect("a string takes all");
     let (calls, lines, runs) = (tally.calls, tally.lines, tally.runs);
     let failures = tally.failures();
     writeln!(text, "judge: {calls} calls in {lines} lines, {runs} runs: {failures} differences")
         .expect("a string takes all");
     (text, cases)
+}
+
+/// Lines by letter; those of the decoders are behind a `z`.
+fn only_rules_by_letter(tally: &Tally) -> String {
+    let part = |(&letter, lines): (&char, &usize)| {
+        let behind = if crate::compare::is_feed(letter) { " behind z" } else { "" };
+        format!("{letter}{behind} {lines}")
+    };
+    let parts: Vec<String> = tally.only_rules.iter().map(part).collect();
+    if parts.is_empty() {
+        return String::new();
+    }
+    format!(" ({})", parts.join(", "))
 }
 
 /// Lines by letter; those of the decoders together, with the number of their runs.

@@ -2,313 +2,172 @@
 //! and ours. It is made to be read beside 01, not to be fast. A run of bytes is cut into pieces as
 //! 'How a run of bytes is cut' says; no byte machine stands behind it.
 
-use crate::cases::{
-    fresh_room, lines_of, parse, Address, Answer, Case, Ending, Frame, FrameType, Heard, Identity,
-    TagDescriptorDate, Variable, Way, FRAME_TYPES,
-};
+mod commands;
+mod dump;
+mod host;
+mod line;
+mod text;
 
-const PREAMBLE: u8 = 0xFF;
-/// So many preamble bytes at least stand before a frame.
-const ENOUGH_PREAMBLES: usize = 5;
+use crate::answers::{Answer, Ending, Heard, Refusal};
+use crate::cases::{fresh_room, lines_of, parse, Case, Mode, Way};
 
-// 'What comes back'.
-const DATA_TOO_LONG: u8 = 1;
-const BUFFER_TOO_SMALL: u8 = 2;
-const BUFFER_TOO_SHORT: u8 = 3;
+use dump::Dump;
+use line::{address_bytes, address_length, address_of, Run};
+use text::{packed, packed_length, unpacked, whole_groups};
 
-/// What document 01 says, with the unfinished tail of each way's run.
-#[derive(Default)]
+pub use host::{block_behind, value_behind};
+pub use line::frame_bytes;
+
+/// 'Modules': the numbers of consts.rs but the UART times. 01 has the wire's numbers in its text;
+/// those of the commands, and 20 and 10 preamble bytes, are HART's.
+const FRAME_NUMBERS: [u16; 6] = [0xFF, 5, 20, 10, 255, 284];
+const DELIMITERS_AND_LONG_BIT: [u16; 7] = [0x02, 0x82, 0x06, 0x86, 0x01, 0x81, 0x80];
+const ADDRESS_BITS: [u16; 4] = [0x80, 0x40, 0x0F, 0x3F];
+const COMMANDS: [u16; 22] =
+    [0, 1, 2, 3, 6, 7, 8, 9, 11, 12, 13, 14, 15, 16, 17, 18, 19, 20, 21, 22, 38, 48];
+
+/// What document 01 says, with the run of each way to feed and that of the dump. A decoder has no run
+/// where it was given a value that none leads to.
 pub struct Rules {
-    tails: [Vec<u8>; 3],
+    runs: [Option<Run>; 3],
+    dump: Dump,
 }
 
 impl Rules {
-    pub fn answer(&mut self, case: &Case) -> Answer {
-        match case {
-            // A reset ends the run, and so do new decoders.
-            Case::New | Case::Reset => {
-                self.tails = Default::default();
-                Answer::Done
-            }
-            Case::Feed(way, bytes) => self.feed(*way, bytes),
-            Case::WriteAddress(address, room) => write(*room, Ok(address_bytes(address))),
-            Case::ReadAddress { long, bytes } => {
-                let used = if *long { 5 } else { 1 };
-                match bytes.get(..used) {
-                    Some(bytes) => Answer::Address(used, address_of(bytes)),
-                    None => Answer::Refused(BUFFER_TOO_SHORT),
-                }
-            }
-            Case::WriteFrame { frame, preambles, room } => write(
-                *room,
-                if frame.data.len() > 255 {
-                    Err(DATA_TOO_LONG)
-                } else {
-                    Ok(frame_bytes(frame, usize::from(*preambles)))
-                },
-            ),
-            Case::Pack { room, text } => write(*room, Ok(whole_groups(&packed(text), 3, *room))),
-            Case::Unpack { room, packed } => {
-                write(*room, Ok(whole_groups(&unpacked(packed), 4, *room)))
-            }
-            Case::Status([first, second]) => Answer::Status(status_flags(*first, *second)),
-            Case::Identity(data) | Case::ReadIdentityByTag(data) => {
-                read(data, 12, |data| Answer::Identity(identity_of(data)))
-            }
-            Case::WriteCodes { room, codes } => {
-                write(*room, if codes.len() > 8 { Err(DATA_TOO_LONG) } else { Ok(codes.clone()) })
-            }
-            Case::ReadVariables(data) => {
-                Answer::Variables(data.chunks_exact(8).take(8).map(variable_of).collect())
-            }
-            Case::WriteTag { room, tag } => write(*room, Ok(packed(tag))),
-            Case::ReadTag(data) => Answer::Tag(array(&unpacked(data))),
-            Case::WriteTagDescriptorDate { room, fields } => write(
-                *room,
-                Ok([packed(&fields.tag), packed(&fields.descriptor), fields.date.to_vec()]
-                    .concat()),
-            ),
-            Case::ReadTagDescriptorDate(data) => read(data, 21, |data| {
-                Answer::TagDescriptorDate(TagDescriptorDate {
-                    tag: array(&unpacked(&data[..6])),
-                    descriptor: array(&unpacked(&data[6..18])),
-                    date: array(&data[18..21]),
-                })
-            }),
-        }
+    pub fn new() -> Self {
+        Rules { runs: fresh_runs(), dump: Dump::default() }
     }
 
-    /// The pieces that end in these bytes say what is heard, each at its last byte. What is left is
-    /// the tail, with which the next bytes go on.
-    fn feed(&mut self, way: Way, bytes: &[u8]) -> Answer {
-        let tail = &mut self.tails[way as usize];
-        let before = tail.len();
-        tail.extend(bytes);
-        let mut events = Vec::new();
-        let mut cut = 0;
-        while let Some((piece, length)) = first_piece(&tail[cut..]) {
-            cut += length;
-            if let Some(heard) = said_by(piece) {
-                events.push((cut - 1 - before, heard));
+    pub fn answer(&mut self, case: &Case) -> Answer {
+        match case {
+            Case::Remark => Answer::Remark,
+            Case::New => {
+                *self = Rules::new();
+                Answer::Done
             }
+            // A reset ends the run, and takes any value.
+            Case::Reset => {
+                self.runs = fresh_runs();
+                Answer::Done
+            }
+            Case::Feed(way, bytes) => feed(&mut self.runs[*way as usize], bytes),
+            Case::Become(value) => {
+                let run = host::run_to(value);
+                let reachable = run.is_some();
+                self.runs[Way::Value as usize] = run.clone();
+                self.runs[Way::Lent as usize] = run;
+                Answer::Reachable(reachable)
+            }
+            Case::WriteAddress(address, room) => write(*room, Ok(address_bytes(address))),
+            Case::ReadAddress { long, bytes } => read_address(*long, bytes),
+            Case::WriteFrame { frame, preambles, room } => write(
+                *room,
+                at_most(255, &frame.data).map(|()| frame_bytes(frame, usize::from(*preambles))),
+            ),
+            Case::Pack { mode: Mode::Crate, room, text } => {
+                let fitting = |bytes: Vec<u8>| whole_groups(&bytes, 3, *room);
+                write(*room, packed(Mode::Crate, text).map(fitting))
+            }
+            Case::Pack { mode: Mode::Standard, room, text } => {
+                write_text(Mode::Standard, *room, text, &[])
+            }
+            Case::Unpack { mode: Mode::Crate, room, packed } => {
+                write(*room, Ok(whole_groups(&unpacked(Mode::Crate, packed), 4, *room)))
+            }
+            Case::Unpack { mode: Mode::Standard, room, packed } => {
+                let left_over = packed.len() % 3 != 0;
+                let characters = unpacked(Mode::Standard, packed);
+                write(*room, if left_over { Err(Refusal::BufferTooShort) } else { Ok(characters) })
+            }
+            Case::Status([first, second]) => {
+                Answer::Status(commands::status_flags(*first, *second))
+            }
+            Case::Identity(data) | Case::ReadIdentityByTag(data) => commands::identity(data),
+            Case::WriteCodes { room, codes } => {
+                write(*room, at_most(8, codes).map(|()| codes.clone()))
+            }
+            Case::ReadVariables(mode, data) => commands::variables(*mode, data),
+            Case::Worth(group) => Answer::Worth(commands::worth(&commands::variable_of(group))),
+            Case::WriteTag { mode, room, tag } => write_text(*mode, *room, tag, &[]),
+            Case::ReadTag(mode, data) => Answer::Tag(array(&unpacked(*mode, data))),
+            Case::WriteTagDescriptorDate { mode, room, fields } => {
+                let text = [&fields.tag[..], &fields.descriptor].concat();
+                write_text(*mode, *room, &text, &fields.date)
+            }
+            Case::ReadTagDescriptorDate(mode, data) => commands::tag_descriptor_date(*mode, data),
+            Case::Payload(frame_type, data) => {
+                Answer::Payload(commands::payload(*frame_type, data).map(<[u8]>::to_vec))
+            }
+            Case::ReadFrame(mode, reader, carrier) => commands::typed(*mode, *reader, carrier),
+            Case::FeedBlock { room, byte, block } => host::feed(block, *room, *byte),
+            Case::ClearBlock(block) => host::clear(block),
+            Case::Constants => Answer::Constants(
+                [&FRAME_NUMBERS[..], &DELIMITERS_AND_LONG_BIT, &ADDRESS_BITS, &COMMANDS].concat(),
+            ),
+            Case::Dump(bytes) => Answer::Lines(self.dump.take(bytes)),
+            Case::EndOfDump => Answer::LastLine(self.dump.last_line()),
         }
-        tail.drain(..cut);
-        Answer::Heard { events, stops: false }
     }
 }
 
 /// The answers to a whole text of cases.
 pub fn answers(cases: &[u8]) -> Vec<Vec<u8>> {
-    let mut rules = Rules::default();
+    let mut rules = Rules::new();
     let answer = |line: &Vec<u8>| parse(line).map_or(Answer::NoCase, |case| rules.answer(&case));
     lines_of(cases).iter().map(answer).map(|answer| answer.to_string().into_bytes()).collect()
 }
 
-/// 'How a run of bytes is cut'.
-enum Piece {
-    Noise,
-    ShortRun,
-    BadDelimiter(u8),
-    Frame(Frame),
-    BadCheck { expected: u8, actual: u8 },
+fn fresh_runs() -> [Option<Run>; 3] {
+    std::array::from_fn(|_| Some(Run::default()))
 }
 
-/// The first piece of a run and its length; none where the run is empty or an unfinished tail.
-fn first_piece(run: &[u8]) -> Option<(Piece, usize)> {
-    let preambles = run.iter().take_while(|&&byte| byte == PREAMBLE).count();
-    let behind = &run[preambles..];
-    let &byte = behind.first()?;
-    if preambles == 0 {
-        return Some((Piece::Noise, 1));
-    }
-    if preambles < ENOUGH_PREAMBLES {
-        return Some((Piece::ShortRun, preambles + 1));
-    }
-    let Some((frame_type, long)) = delimited(byte) else {
-        return Some((Piece::BadDelimiter(byte), preambles + 1));
+/// What is heard in these bytes: 8 at each of them where no run leads to the decoder, which stays so.
+fn feed(run: &mut Option<Run>, bytes: &[u8]) -> Answer {
+    let events = match run {
+        Some(run) => run.take(bytes),
+        None => (0..bytes.len()).map(|place| (place, Heard::Refused(Refusal::BadState))).collect(),
     };
-    let (piece, length) = framed(frame_type, long, behind)?;
-    Some((piece, preambles + length))
+    Answer::Heard { events, stops: false }
 }
 
-/// The piece from its delimiter to its check, and its length without preamble, where it is all there.
-fn framed(frame_type: FrameType, long: bool, bytes: &[u8]) -> Option<(Piece, usize)> {
-    let command_place = if long { 6 } else { 2 };
-    let count = usize::from(*bytes.get(command_place + 1)?);
-    let check_place = command_place + 2 + count;
-    let actual = *bytes.get(check_place)?;
-    let expected = check(&bytes[..check_place]);
-    let piece = if actual == expected {
-        Piece::Frame(Frame {
-            frame_type,
-            address: address_of(&bytes[1..command_place]),
-            command: bytes[command_place],
-            data: bytes[command_place + 2..check_place].to_vec(),
-        })
-    } else {
-        Piece::BadCheck { expected, actual }
-    };
-    Some((piece, check_place + 1))
-}
-
-fn said_by(piece: Piece) -> Option<Heard> {
-    match piece {
-        Piece::Noise | Piece::ShortRun => None,
-        Piece::BadDelimiter(byte) => Some(Heard::BadDelimiter(byte)),
-        Piece::Frame(frame) => Some(Heard::Frame(frame)),
-        Piece::BadCheck { expected, actual } => Some(Heard::BadCheck { expected, actual }),
+fn read_address(long: bool, bytes: &[u8]) -> Answer {
+    let used = address_length(long);
+    match bytes.get(..used) {
+        Some(bytes) => Answer::Address(used, address_of(bytes)),
+        None => Answer::Refused(Refusal::BufferTooShort),
     }
-}
-
-// 'Wire layout'.
-
-fn delimiter(frame_type: FrameType, long: bool) -> u8 {
-    match (frame_type, long) {
-        (FrameType::Request, false) => 0x02,
-        (FrameType::Request, true) => 0x82,
-        (FrameType::Response, false) => 0x06,
-        (FrameType::Response, true) => 0x86,
-        (FrameType::Burst, false) => 0x01,
-        (FrameType::Burst, true) => 0x81,
-    }
-}
-
-fn delimited(byte: u8) -> Option<(FrameType, bool)> {
-    let heads =
-        FRAME_TYPES.into_iter().flat_map(|frame_type| [(frame_type, false), (frame_type, true)]);
-    heads.into_iter().find(|&(frame_type, long)| delimiter(frame_type, long) == byte)
-}
-
-fn check(bytes: &[u8]) -> u8 {
-    bytes.iter().fold(0, |check, byte| check ^ byte)
-}
-
-/// A frame with its preamble and its check. The data are at most 255 bytes.
-pub fn frame_bytes(frame: &Frame, preambles: usize) -> Vec<u8> {
-    let mut body = vec![delimiter(frame.frame_type, frame.address.is_long())];
-    body.extend(address_bytes(&frame.address));
-    body.push(frame.command);
-    body.push(frame.data.len() as u8);
-    body.extend(&frame.data);
-    body.push(check(&body));
-    [vec![PREAMBLE; preambles], body].concat()
-}
-
-/// A field that is too large loses its high bits.
-fn address_bytes(address: &Address) -> Vec<u8> {
-    let first = |primary, burst, low| 128 * u8::from(primary) + 64 * u8::from(burst) + low;
-    match *address {
-        Address::Short { primary, burst, polling } => vec![first(primary, burst, polling % 16)],
-        Address::Long { primary, burst, manufacturer, device_type, number } => {
-            let [_, high, middle, low] = number.to_be_bytes();
-            vec![first(primary, burst, manufacturer % 64), device_type, high, middle, low]
-        }
-    }
-}
-
-/// The address in one byte or in five.
-fn address_of(bytes: &[u8]) -> Address {
-    let first = bytes[0];
-    let (primary, burst) = (first / 128 == 1, first / 64 % 2 == 1);
-    if bytes.len() == 1 {
-        return Address::Short { primary, burst, polling: first % 16 };
-    }
-    Address::Long {
-        primary,
-        burst,
-        manufacturer: first % 64,
-        device_type: bytes[1],
-        number: u32::from_be_bytes([0, bytes[2], bytes[3], bytes[4]]),
-    }
-}
-
-// 'Packed text', crate mode.
-
-/// All groups of a text, its last one filled with spaces.
-fn packed(text: &[u8]) -> Vec<u8> {
-    let code = |place: usize, group: &[u8]| {
-        let character = group.get(place).copied().unwrap_or(b' ');
-        u32::from(character.saturating_sub(0x20) % 64)
-    };
-    text.chunks(4)
-        .flat_map(|group| {
-            let joined = (0..4).fold(0, |joined, place| 64 * joined + code(place, group));
-            let [_, first, second, third] = joined.to_be_bytes();
-            [first, second, third]
-        })
-        .collect()
-}
-
-/// The characters of all whole groups.
-fn unpacked(packed: &[u8]) -> Vec<u8> {
-    packed
-        .chunks_exact(3)
-        .flat_map(|group| {
-            let joined = u32::from_be_bytes([0, group[0], group[1], group[2]]);
-            [3, 2, 1, 0].map(|place| (joined / 64u32.pow(place) % 64) as u8 + 0x20)
-        })
-        .collect()
-}
-
-/// The groups, of so many bytes each, that fit into the room.
-fn whole_groups(bytes: &[u8], group: usize, room: usize) -> Vec<u8> {
-    bytes[..bytes.len().min(room / group * group)].to_vec()
-}
-
-// 'Commands'.
-
-fn identity_of(data: &[u8]) -> Identity {
-    Identity {
-        expansion: data[0],
-        device_type: u16::from_be_bytes([data[1], data[2]]),
-        minimum_preambles: data[3],
-        hart_revision: data[4],
-        device_revision: data[5],
-        software_revision: data[6],
-        hardware_revision: data[7] / 8,
-        signalling: data[7] % 8,
-        flags: data[8],
-        number: u32::from_be_bytes([0, data[9], data[10], data[11]]),
-    }
-}
-
-fn variable_of(group: &[u8]) -> Variable {
-    Variable {
-        code: group[0],
-        class: group[1],
-        unit: group[2],
-        value: u32::from_be_bytes([group[3], group[4], group[5], group[6]]),
-        status: group[7],
-    }
-}
-
-/// 01 takes the response status from the source without a word on its bits. These are HART's.
-fn status_flags(first: u8, second: u8) -> [bool; 6] {
-    let bit = |number: u32| second / 2u8.pow(number) % 2 == 1;
-    [first != 0, bit(7), bit(6), bit(5), bit(4), bit(3)]
 }
 
 // 'What comes back': a refused call writes nothing, and bytes past what is written stay as they were.
 
-fn write(room: usize, bytes: Result<Vec<u8>, u8>) -> Answer {
+/// 1 for more than so many, which is tested before 2.
+fn at_most(most: usize, bytes: &[u8]) -> Result<(), Refusal> {
+    if bytes.len() > most {
+        Err(Refusal::DataTooLong)
+    } else {
+        Ok(())
+    }
+}
+
+/// Packed text and what stands behind it. 2 for the whole layout comes before 7.
+fn write_text(mode: Mode, room: usize, text: &[u8], behind: &[u8]) -> Answer {
+    if packed_length(text) + behind.len() > room {
+        return write(room, Err(Refusal::BufferTooSmall));
+    }
+    write(room, packed(mode, text).map(|packed| [&packed, behind].concat()))
+}
+
+fn write(room: usize, bytes: Result<Vec<u8>, Refusal>) -> Answer {
     let mut buffer = fresh_room(room);
     let ending = match bytes {
-        Err(number) => Ending::Refused(number),
-        Ok(bytes) if bytes.len() > room => Ending::Refused(BUFFER_TOO_SMALL),
+        Err(refusal) => Ending::Refused(refusal),
+        Ok(bytes) if bytes.len() > room => Ending::Refused(Refusal::BufferTooSmall),
         Ok(bytes) => {
             buffer[..bytes.len()].copy_from_slice(&bytes);
             Ending::Count(bytes.len())
         }
     };
     Answer::Written(ending, buffer)
-}
-
-fn read(data: &[u8], least: usize, reading: impl FnOnce(&[u8]) -> Answer) -> Answer {
-    if data.len() < least {
-        Answer::Refused(BUFFER_TOO_SHORT)
-    } else {
-        reading(data)
-    }
 }
 
 /// A list of known length as an array.

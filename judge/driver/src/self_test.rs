@@ -1,12 +1,13 @@
 //! The comparison must be able to fail. Wrong answers of several sorts are planted in a copy of right
 //! ones, each alone, and each must be found where it stands; the smallest input that shows a known
-//! fault must come out of a large one; and `rules` must give document 01's examples.
+//! fault must come out of a large one; and `rules` must give the answers that were written by hand.
 
 use std::process::ExitCode;
 
 use crate::cases::lines_of;
 use crate::compare::{compare, Check, Kind, Tally, Texts};
 use crate::fixed;
+use crate::fixed::examples::{examples, Example};
 use crate::generate::Sheet;
 use crate::rules;
 use crate::shrink::{shown, smallest, Programs};
@@ -28,7 +29,7 @@ struct Plant {
     found_by: Check,
 }
 
-const PLANTS: [Plant; 26] = [
+const PLANTS: [Plant; 53] = [
     ours("a frame with another last byte", "v", |answer| {
         in_frame(answer, last_digit_turned(answer))
     }),
@@ -56,31 +57,42 @@ const PLANTS: [Plant; 26] = [
     ours("a variable too few", "g", |answer| replaced(answer, "2 ", "1 ")),
     ours("an empty line", "k", |_| Some(String::new())),
     ours("a case taken for none", "h", |answer| done(answer, Some("?".into()))),
+    ours("a remark that is answered", "#", |_| Some("?".into())),
+    ours("a bad character one place on", "P", |answer| replaced(answer, "!7:0000", "!7:0001")),
+    ours("a bad character without its place", "P", |answer| replaced(answer, "!7:0000", "!7")),
+    ours("a bad character that is taken", "P", |answer| replaced(answer, "!7:0000", "3")),
+    ours("a left-over that is read", "U", |answer| replaced(answer, "!3", "4")),
+    ours("7 before 2", "TD", |answer| replaced(answer, "!2", "!7:0000")),
+    ours("another character of a tag", "K", last_digit_turned),
+    ours("another date", "H", last_digit_turned),
+    ours("the status byte taken for a group", "G", |answer| replaced(answer, "0 -", "1 ")),
+    ours("a poor reading that is good", "m", |answer| replaced(answer, "poor", "good")),
+    ours("another float", "m", |answer| replaced(answer, "fixed 4", "fixed C")),
+    ours("an absent value that is bad", "m", |answer| replaced(answer, "absent", "bad")),
+    ours("a payload with its status", "y", |answer| replaced(answer, ". 07", ". 400007")),
+    ours("an error without its byte", "y", |answer| replaced(answer, "!9:80", "!9")),
+    ours("3 before 6", "f", |answer| replaced(answer, "!6", "!3")),
+    ours("an unreachable value that is taken", "z", |answer| replaced(answer, "0", "1")),
+    ours("a reachable value that is not", "z", |answer| replaced(answer, "1", "0")),
+    ours("silence at an unreachable value", "vl", |answer| replaced(answer, "X0:08", ".")),
+    ours("a refused call that took the byte", "o", |answer| replaced(answer, "1002 C", "1002 8")),
+    ours("a record one byte longer", "o", |answer| replaced(answer, "2 ", "3 ")),
+    ours("a byte behind the record", "o", |answer| done(answer, last_digit_turned(answer))),
+    ours("a block that is not cleared", "c", |answer| replaced(answer, "0 00", "0 40")),
+    ours("another constant", "x", |answer| replaced(answer, "FF 05", "FF 04")),
+    ours("a line of the dump one place late", "A", |answer| replaced(answer, "F 9", "F 10")),
+    ours("another total of the dump", "E", last_digit_turned),
     debug("another answer of the debug Rust", "d", last_digit_turned),
     debug("another frame before it stops", "v", |answer| {
         in_frame(answer, last_digit_turned(answer).map(|answer| answer + " stops"))
     }),
     debug("a stop where none is known", "e", |_| Some("stops".into())),
+    debug("an answer of the debug Rust to a call that it has not", "P", last_digit_turned),
+    debug("another constant of the debug Rust", "x", last_digit_turned),
     release("another answer of the release Rust", "q", last_digit_turned),
     release("a frame that the release Rust loses", "v", |answer| {
         in_frame(answer, Some(".".into()))
     }),
-];
-
-/// Document 01's examples, by hand from its text. Spaces are there for the reader alone.
-const EXAMPLES: [(&str, &str); 12] = [
-    ("v FFFFFFFFFF 0280000082", "F9:00 02000000000000 00 00"),
-    ("v FFFFFFFFFF 0280000083", "C9:8283"),
-    ("v FFFFFFFF 02", "."),
-    ("v FFFFFFFFFF 03", "D5:03"),
-    ("v FFFFFFFFFF 02800000FF FFFFFFFF 02", "C9:82FF"),
-    ("v FFFFFFFFFF 0280000082 FFFFFFFFFF 03", "F9:00 02000000000000 00 00 D15:03"),
-    ("e 00 03260A00010203 09 00 000B 0001", "11 82A60A0102030902000124"),
-    ("p 0003 54455354", "3 D25CF4"),
-    ("u 0003 D25CF4", "0 A0A1A2"),
-    ("p 0003 61", "3 040000"),
-    ("u 0004 040000", "4 21202020"),
-    ("w 00000000000000 00", "!2 -"),
 ];
 
 const fn ours(
@@ -170,25 +182,37 @@ fn text_of(lines: &[Vec<u8>]) -> Vec<u8> {
     lines.iter().flat_map(|line| [&line[..], b"\n"].concat()).collect()
 }
 
-fn without_spaces(text: &str) -> String {
-    text.replace(' ', "")
+/// The number of answers by hand, and the cases that `rules` answers in another way.
+fn held_against_hand() -> (usize, Vec<String>) {
+    let mut asked = Vec::new();
+    for example in examples() {
+        if let Example::Cases(cases, wanted) = example {
+            asked.extend(cases.into_iter().map(|case| (case, wanted.clone())));
+        }
+    }
+    let cases: String = asked.iter().map(|(case, _)| format!("{case}\n")).collect();
+    let mut by_hand = 0;
+    let mut other = Vec::new();
+    for ((case, wanted), answer) in asked.into_iter().zip(rules::answers(cases.as_bytes())) {
+        let Some(wanted) = wanted.filter(|_| case != "n") else {
+            continue;
+        };
+        by_hand += 1;
+        let answer = String::from_utf8_lossy(&answer).into_owned();
+        if !is_as_by_hand(&case, &answer, &wanted) {
+            other.push(format!("{case}: {answer}"));
+        }
+    }
+    (by_hand, other)
 }
 
-fn answer_to(case: &str) -> String {
-    without_spaces(&String::from_utf8_lossy(&rules::answers(case.as_bytes()).concat()))
-}
-
-/// 01's examples with many bytes: 256 preamble bytes, and the longest frame in a buffer that fits, in
-/// one a byte shorter, and one data byte more with no buffer at all.
-fn long_examples_hold() -> bool {
-    let shortest = format!("v {} 0280000082", "FF".repeat(256));
-    let longest = |room: &str, data: usize| {
-        answer_to(&format!("e 00 03260A00010203 09 14 {room} {}", "55".repeat(data)))
-    };
-    answer_to(&shortest) == "F260:00020000000000000000"
-        && longest("011C", 255).starts_with(&format!("284{}82A60A01020309FF5555", "FF".repeat(20)))
-        && longest("011B", 255).starts_with("!2A0A1A2")
-        && longest("0000", 256) == "!1-"
+/// Spaces are for the reader, but in the dump's lines, which are to the letter.
+fn is_as_by_hand(case: &str, answer: &str, wanted: &str) -> bool {
+    if case.starts_with(['A', 'E']) {
+        answer == wanted
+    } else {
+        answer.replace(' ', "") == wanted.replace(' ', "")
+    }
 }
 
 /// On a line where the debug Rust stops and is known to, the release one is set beside 01.
@@ -207,11 +231,41 @@ fn release_is_set_beside() -> bool {
     tally.failures() == 0 && tally.count(Check::ReleaseBesideRules) == 1 && tally.stopped_runs == 1
 }
 
+/// The cases of which document 01 is the only judge: the Rust has no such calls, and its decoders are
+/// gone behind a value, but for the one of the block.
+const ONLY_RULES: &str = "n\nP 000354455354\nz 01000000050000\nv 03\nl 02\nb 03\n";
+
+fn only_rules_tally(debug: &[u8], release: &[u8]) -> Tally {
+    let right = text_of(&rules::answers(ONLY_RULES.as_bytes()));
+    let texts =
+        Texts { cases: ONLY_RULES.as_bytes(), rules: &right[..], ours: &right[..], debug, release };
+    compare(texts).expect("memory can be read")
+}
+
+/// Lines of calls that the Rust does not have are no failures, and are counted by letter.
+fn only_rules_are_counted() -> bool {
+    let rust = b".\nstops\nstops\nstops\nstops\n.\n";
+    let tally = only_rules_tally(rust, rust);
+    let counted: Vec<(char, usize)> = tally.only_rules.into_iter().collect();
+    tally.seen.is_empty()
+        && tally.stopped.is_empty()
+        && counted == [('P', 1), ('l', 1), ('v', 1), ('z', 1)]
+}
+
+/// There the two builds of the Rust stop alike; the block's decoder has no reason to.
+fn odd_stops_are_found() -> bool {
+    let rust = b".\nstops\nstops\nstops\nstops\n.\n";
+    let release_answers = b".\n3 5054D4\nstops\nstops\nstops\n.\n";
+    let block_stops = b".\nstops\nstops\nstops\nstops\nstops\n";
+    only_rules_tally(rust, release_answers).count(Check::ReleaseIsDebug) == 1
+        && only_rules_tally(block_stops, block_stops).count(Check::DebugIsRules) == 1
+}
+
 /// What shrinking makes of a large input, for a program that never says a word of this letter's.
-fn smallest_unheard(expected: &'static str, lines: &[&str]) -> String {
+fn smallest_unheard(letter: char, expected: &'static str, lines: &[&str]) -> String {
     let silent = |cases: &[u8]| {
         let hushed = |(case, answer): (Vec<u8>, Vec<u8>)| {
-            if case[0] == b'v' {
+            if char::from(case[0]) == letter {
                 b".".to_vec()
             } else {
                 answer
@@ -224,7 +278,7 @@ fn smallest_unheard(expected: &'static str, lines: &[&str]) -> String {
         debug: Box::new(rules::answers),
         release: Box::new(rules::answers),
     };
-    let kind = Kind { check: Check::OursIsRules, letter: 'v', expected, got: "silence" };
+    let kind = Kind { check: Check::OursIsRules, letter, expected, got: "silence" };
     let lines: Vec<Vec<u8>> = lines.iter().map(|line| line.as_bytes().to_vec()).collect();
     smallest(&kind, &lines, &programs).map_or("none".into(), |input| shown(&input))
 }
@@ -241,10 +295,9 @@ pub fn run() -> ExitCode {
             unseen.push(name);
         }
     };
-    for (case, expected) in EXAMPLES {
-        see(case, answer_to(case) == without_spaces(expected));
-    }
-    see("the long examples of document 01", long_examples_hold());
+    let (by_hand, other) = held_against_hand();
+    other.iter().for_each(|case| println!("judge: self-test: not as by hand: {case}"));
+    see("the answers by hand", other.is_empty() && by_hand > 0);
     for plant in &PLANTS {
         see(plant.name, right.finds_plant(plant));
     }
@@ -256,20 +309,39 @@ pub fn run() -> ExitCode {
         none.seen.is_empty() && none.lines == right.answers.len(),
     );
     see("the release Rust beside 01", release_is_set_beside());
+    see("lines that 01 alone judges", only_rules_are_counted());
+    see("odd stops of the Rust", odd_stops_are_found());
     // Both have their bytes in the second line, behind noise and a reset.
     let frame = ["v 0055FFFFFF", "r", "v 11FFFFFFFFFFFFFF86A60A01020309020001208899"];
     let smallest_frame = "v FF FF FF FF FF 01 00 00 00 01";
-    see("the smallest input with a frame", smallest_unheard("a frame", &frame) == smallest_frame);
+    see(
+        "the smallest input with a frame",
+        smallest_unheard('v', "a frame", &frame) == smallest_frame,
+    );
     let delimiter = ["v FFFFFFFFFFFF02800000", "v 82FFFFFF", "v FFFFFFFF7A0102"];
     let smallest_delimiter = "v FF FF FF FF FF 00";
     see(
         "the smallest bad delimiter",
-        smallest_unheard("refusal 4", &delimiter) == smallest_delimiter,
+        smallest_unheard('v', "refusal 4", &delimiter) == smallest_delimiter,
+    );
+    let unreachable =
+        ["v 00FF", "z 05010183040901 8301020304050600", "r", "z 01020155090707", "v 0102"];
+    see(
+        "the smallest unreachable value",
+        smallest_unheard('v', "another refusal", &unreachable) == "z 01 00*6, v 00",
+    );
+    let dumped = ["A 00FFFF", "A FFFFFFFFFF", "A 0280000082FF", "A FFFFFFFFFFFF7A0102"];
+    see(
+        "the smallest line of the dump",
+        smallest_unheard('A', "an answer", &dumped) == "A FF FF FF FF FF 00",
     );
     for name in &unseen {
         println!("judge: self-test: NOT SEEN: {name}");
     }
-    println!("judge: self-test: {} of {tried} things seen", tried - unseen.len());
+    println!(
+        "judge: self-test: {} of {tried} things seen, {by_hand} answers by hand",
+        tried - unseen.len()
+    );
     if unseen.is_empty() {
         ExitCode::SUCCESS
     } else {

@@ -7,7 +7,7 @@ use std::ops::Range;
 use std::process::{Command, Stdio};
 
 use crate::cases::{hex, letter_and_bytes, lines_of};
-use crate::compare::{differences, is_feed, Answers, Check, Kind};
+use crate::compare::{differences, takes_runs, Answers, Check, Kind};
 use crate::rules;
 
 /// A program: cases in, answers out, a line each.
@@ -119,7 +119,7 @@ fn dropped(input: &Input) -> Vec<Input> {
         let mut candidate = input.clone();
         candidate.remove(place);
         candidates.push(candidate);
-        if is_feed(char::from(input[place].letter))
+        if takes_runs(char::from(input[place].letter))
             && input[place].letter == input[place + 1].letter
         {
             let mut candidate = input.clone();
@@ -163,7 +163,7 @@ fn is_first_of_equal(bytes: &[u8], place: usize) -> bool {
 /// the last byte of the line, as the check.
 fn mended(input: &Input) -> Vec<Input> {
     let mut candidates = Vec::new();
-    let fed = |line: &Line| is_feed(char::from(line.letter));
+    let fed = |line: &Line| takes_runs(char::from(line.letter));
     for (place, line) in input.iter().enumerate().filter(|(_, line)| fed(line)) {
         for front in (0..line.bytes.len()).filter(|&front| line.bytes[front] != 0xFF) {
             for stretch in [1, 2, 4, 8, 16, 32, 64, 128] {

@@ -5,7 +5,7 @@ use mathlib.Core.Path.{_≡_, refl, sym, ap, _∙_}
 use mathlib.Core.List.{List}
 use lib.ListN.{length, take, drop, length-drop}
 use lib.Seq.{take-all, take-add}
-use Rattle.dump_text.specs.Text.{lineMax}
+use Rattle.dump_lines.specs.Text.{lineMax}
 use Rattle.dump_lines.specs.Lines.{after, taken}
 use Rattle.dump_lines.specs.declared.Dump.{Dump}
 use Rattle.dump_lines.specs.declared.Taken.{Taken}

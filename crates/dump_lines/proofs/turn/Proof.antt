@@ -10,13 +10,13 @@ use borrow.Author.Tests.{le-leb}
 use Rattle.octets.specs.Put.{put}
 use Rattle.octets.proofs.Put.{put-nil}
 use Rattle.line.specs.Events.{Event, silence}
-use Rattle.machine.specs.declared.state.State.{State}
-use Rattle.machine.specs.declared.state.State.the-variants.{Hunting}
-use Rattle.machine.specs.declared.moved.Ended.{Ended}
-use Rattle.machine.specs.Feed.{Held, holding, blank, stepped}
-use Rattle.machine.specs.Feed.{fresh as freshHeld}
-use Rattle.dump_text.specs.Text.{lineMax, lineOf}
-use Rattle.machine.specs.Feed.{eventOf}
+use Rattle.line.specs.declared.state.State.{State}
+use Rattle.line.specs.declared.state.State.the-variants.{Hunting}
+use Rattle.line.specs.declared.moved.Ended.{Ended}
+use Rattle.line.specs.machine.Feed.{Held, holding, blank, stepped}
+use Rattle.line.specs.machine.Feed.{fresh as freshHeld}
+use Rattle.dump_lines.specs.Text.{lineMax, lineOf}
+use Rattle.line.specs.machine.Feed.{eventOf}
 use Rattle.dump_lines.specs.Lines.{counted, dump, dumpOf, next, told}
 use Rattle.dump_lines.specs.declared.Totals.{Totals}
 use Rattle.dump_lines.proofs.Along.{goes-on, is-over}
@@ -32,15 +32,6 @@ module _ (s : State) (bs : List ℕ) (t : Totals) (b : ℕ) {h : Held} {e : Even
   told-is : lineOf (t .bytes) e ≡ told (dump s bs t) b
   told-is = sym (ap (λ (y : Held × Event). lineOf (t .bytes) (y .1)) gives)
 
-step-requires : tie.Need-step-requires
-step-requires c κs = search needs
-
-counted-requires : tie.Need-counted-requires
-counted-requires c κs = search needs
-
-enum-told : tie.Need-enum-told
-enum-told c = search needs
-
 returns : tie.Need-returns
 returns c =
     let a = c .before .before .before .before .before .before .args in
@@ -51,12 +42,6 @@ returns c =
       ap (dump (st .result .state) (st .last .1 .0)) totals ∙ next-is (a .state) (a .bytes .now) (a .totals) (a .byte) is,
       (omega (arith, ap length line), sym (put-nil (a .out .now) (a .at)) ∙ ap (put (a .out .now) (a .at)) line),
     )
-
-write-line-requires : tie.Need-write-line-requires
-write-line-requires c κs = search needs
-
-same-length : tie.Need-same-length
-same-length c = search needs
 
 returns-2 : tie.Need-returns-2
 unfolding blank
@@ -79,10 +64,10 @@ pub turn-spec : {M : Type 1} → statement M
 turn-spec =
     tie.close
     (tie.spec
-    step-requires
-    counted-requires
-    enum-told
+    (λ c κs. search needs)
+    (λ c κs. search needs)
+    (λ c. search needs)
     returns
-    write-line-requires
-    same-length
+    (λ c κs. search needs)
+    (λ c. search needs)
     returns-2)

@@ -43,8 +43,8 @@ use Rattle.framing.proofs.decode.Decoder as T
 use Rattle.framing.proofs.decode.Decoder.Laws as T′
 use Rattle.framing.proofs.decode.Fed as S
 use Rattle.framing.proofs.decode.Fed.Laws as S′
-use Rattle.machine.proofs.frame.Heard as F
-use Rattle.machine.proofs.frame.Heard.Laws as F′
+use Rattle.line.proofs.frame.Heard as F
+use Rattle.line.proofs.frame.Heard.Laws as F′
 use Rattle.framing.proofs.decode.Decoder.feed as by-value
 use Rattle.framing.proofs.decode.Decoder.feed.Symbol as by-value-def
 use Rattle.framing.proofs.decode.Decoder.feed.Symbol.{name as #by-value}

@@ -45,12 +45,12 @@ use denote.Triple.Walked.{says, Stays, stay-none, stay-none-slice, walkOf, goes-
 use denote.Signature.{plain}
 use denote.Exit.{yes}
 use Rattle.framing.specs.declared.decode.Decoder.{Decoder}
-use Rattle.machine.specs.declared.frame.Heard.{Heard}
+use Rattle.line.specs.declared.frame.Heard.{Heard}
 use Rattle.framing.specs.Feed.{fresh}
 use Rattle.framing.proofs.decode.Decoder as T
 use Rattle.framing.proofs.decode.Decoder.Laws as T′
-use Rattle.machine.proofs.frame.Heard as F
-use Rattle.machine.proofs.frame.Heard.Laws as F′
+use Rattle.line.proofs.frame.Heard as F
+use Rattle.line.proofs.frame.Heard.Laws as F′
 use Rattle.framing.proofs.decode.Decoder.new.Symbol as new-def
 use Rattle.framing.proofs.decode.Decoder.new.Symbol.{name as #new}
 use Rattle.framing.proofs.decode.Decoder.new.Met as new-thm

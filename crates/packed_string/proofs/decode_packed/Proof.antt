@@ -1,21 +1,12 @@
 -- What `unpack` puts and counts in crate mode.
 use mathlib.Core.Path.{refl, sym, _∙_}
 use borrow.Author.Needs.{needs}
-use Rattle.text_group.specs.declared.Mode.the-variants.{Crate}
-use Rattle.text_groups.specs.Groups.{unpackedCount}
-use Rattle.text_groups.proofs.Groups.{unpacked-wrote}
+use Rattle.packed_string.specs.declared.text_group.Mode.the-variants.{Crate}
+use Rattle.packed_string.specs.Groups.{unpackedCount}
+use Rattle.packed_string.proofs.Groups.{unpacked-wrote}
 use Rattle.packed_string.proofs.Calls.{crate-unpacks}
 use Rattle.packed_string.proofs.decode_packed.Statement.{statement}
 use Rattle.packed_string.proofs.decode_packed.Tie as tie
-
-unpack-requires : tie.Need-unpack-requires
-unpack-requires c κs = search needs
-
-mul-result : tie.Need-mul-result
-mul-result c = search needs
-
-same-length : tie.Need-same-length
-same-length c = search needs
 
 returns : tie.Need-returns
 returns c =
@@ -25,4 +16,4 @@ returns c =
     let p = c .before .before .unpack in unpacked-wrote Crate s d (unpackedCount s d) (p .ensures .0) (p .ensures .1) ∙ sym (crate-unpacks s d refl)
 
 pub decode-packed-spec : {M : Type 1} → statement M
-decode-packed-spec = tie.close (tie.spec unpack-requires mul-result same-length returns)
+decode-packed-spec = tie.close (tie.spec (λ c κs. search needs) (λ c. search needs) (λ c. search needs) returns)

@@ -1,21 +1,12 @@
 -- What `pack` puts and counts in crate mode.
 use mathlib.Core.Path.{refl, sym, _∙_}
 use borrow.Author.Needs.{needs}
-use Rattle.text_group.specs.declared.Mode.the-variants.{Crate}
-use Rattle.text_groups.specs.Groups.{packedCount}
-use Rattle.text_groups.proofs.Groups.{packed-wrote}
+use Rattle.packed_string.specs.declared.text_group.Mode.the-variants.{Crate}
+use Rattle.packed_string.specs.Groups.{packedCount}
+use Rattle.packed_string.proofs.Groups.{packed-wrote}
 use Rattle.packed_string.proofs.Calls.{crate-packs}
 use Rattle.packed_string.proofs.encode_packed.Statement.{statement}
 use Rattle.packed_string.proofs.encode_packed.Tie as tie
-
-pack-requires : tie.Need-pack-requires
-pack-requires c κs = search needs
-
-mul-result : tie.Need-mul-result
-mul-result c = search needs
-
-same-length : tie.Need-same-length
-same-length c = search needs
 
 returns : tie.Need-returns
 returns c =
@@ -25,4 +16,4 @@ returns c =
     let p = c .before .before .pack in packed-wrote Crate s d (packedCount s d) (p .ensures .0) (p .ensures .1) ∙ sym (crate-packs s d refl)
 
 pub encode-packed-spec : {M : Type 1} → statement M
-encode-packed-spec = tie.close (tie.spec pack-requires mul-result same-length returns)
+encode-packed-spec = tie.close (tie.spec (λ c κs. search needs) (λ c. search needs) (λ c. search needs) returns)

@@ -5,8 +5,8 @@ use mathlib.Core.Bool.{Bool}
 use lib.Dec.{ltb, leb}
 use lib.ListN.{length}
 use borrow.Author.Tests.{lt-ltb, ltb-true, leb-true, leb-false}
-use Rattle.machine.proofs.Zeros.{and-first, and-second}
-use Rattle.dump_text.specs.Text.{lineMax}
+use Rattle.line.proofs.machine.Zeros.{and-first, and-second}
+use Rattle.dump_lines.specs.Text.{lineMax}
 use Rattle.dump_lines.specs.Lines.{dump}
 use Rattle.dump_lines.proofs.Along.{Took, took-none, took-more, took-all, took-text}
 use Rattle.dump_lines.proofs.Dump.take.Statement.{statement}

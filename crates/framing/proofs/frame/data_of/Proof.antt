@@ -7,27 +7,9 @@ use lib.ListN.{length, take, drop, replicate, length-take}
 use borrow.Author.Needs.{needs}
 use Rattle.octets.specs.Put.{putIfFits}
 use Rattle.octets.proofs.Put.{put-fitting, put-front}
-use Rattle.machine.proofs.Zeros.{drop-zeros}
+use Rattle.line.proofs.machine.Zeros.{drop-zeros}
 use Rattle.framing.proofs.frame.data_of.Statement.{statement}
 use Rattle.framing.proofs.frame.data_of.Tie as tie
-
-add-to : tie.Need-add-to
-add-to c = search needs
-
-sub-copy-into : tie.Need-sub-copy-into
-sub-copy-into c = search needs
-
-part-copy-into-start : tie.Need-part-copy-into-start
-part-copy-into-start c = search needs
-
-part-copy-into-end : tie.Need-part-copy-into-end
-part-copy-into-end c = search needs
-
-slice-aggregate-copy-into : tie.Need-slice-aggregate-copy-into
-slice-aggregate-copy-into c = search needs
-
-copy-into-requires : tie.Need-copy-into-requires
-copy-into-requires c κs = search needs
 
 returns : tie.Need-returns
 returns c =
@@ -44,4 +26,4 @@ returns c =
 
 pub data-of-spec : {M : Type 1} → statement M
 data-of-spec =
-    tie.close (tie.spec add-to sub-copy-into part-copy-into-start part-copy-into-end slice-aggregate-copy-into copy-into-requires returns)
+    tie.close (tie.spec (λ c. search needs) (λ c. search needs) (λ c. search needs) (λ c. search needs) (λ c. search needs) (λ c κs. search needs) returns)

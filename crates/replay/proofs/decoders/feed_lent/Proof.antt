@@ -36,8 +36,8 @@ use Rattle.framing.proofs.decode.Decoder as T
 use Rattle.framing.proofs.decode.Decoder.Laws as T′
 use Rattle.framing.proofs.decode.Fed as S
 use Rattle.framing.proofs.decode.Fed.Laws as S′
-use Rattle.machine.proofs.frame.Heard as F
-use Rattle.machine.proofs.frame.Heard.Laws as F′
+use Rattle.line.proofs.frame.Heard as F
+use Rattle.line.proofs.frame.Heard.Laws as F′
 use Rattle.lent.proofs.New.{mach}
 use Rattle.lent.proofs.Lent.{spoken, Feed, feeds}
 use Rattle.lent.proofs.Listening.{next, heardAt}

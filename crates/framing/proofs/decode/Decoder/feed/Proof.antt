@@ -1,26 +1,11 @@
 -- `Decoder::feed` meets its contract.
 use mathlib.Core.Path.{_≡_, sym, _∙_}
 use mathlib.Core.Bool.{true, false}
-use Rattle.machine.specs.Feed.{stepped, feeding}
+use Rattle.line.specs.machine.Feed.{stepped, feeding}
 use Rattle.framing.specs.Feed.{reachable}
 use borrow.Author.Needs.{needs}
 use Rattle.framing.proofs.decode.Decoder.feed.Statement.{statement}
 use Rattle.framing.proofs.decode.Decoder.feed.Tie as tie
-
-slice-aggregate-is-reachable : tie.Need-slice-aggregate-is-reachable
-slice-aggregate-is-reachable c = search needs
-
-is-reachable-requires : tie.Need-is-reachable-requires
-is-reachable-requires c κs = search needs
-
-slice-aggregate-step : tie.Need-slice-aggregate-step
-slice-aggregate-step c = search needs
-
-step-requires : tie.Need-step-requires
-step-requires c κs = search needs
-
-ended-with-requires : tie.Need-ended-with-requires
-ended-with-requires c κs = search needs
 
 returns : tie.Need-returns
 unfolding stepped feeding
@@ -28,9 +13,6 @@ returns c =
     let d = c .before .before .before .before .before .before .before .before .args .self in
     let p : reachable d ≡ true = sym (c .before .before .before .before .before .is-reachable .ensures) ∙ c .before .before .before .before .if1 .taken in
     rw p (rw (c .before .before .step .ensures .0, c .before .before .step .ensures .1) at (c .ended-with .ensures))
-
-frameless-requires : tie.Need-frameless-requires
-frameless-requires c κs = search needs
 
 returns-2 : tie.Need-returns-2
 unfolding feeding
@@ -43,11 +25,11 @@ pub feed-spec : {M : Type 1} → statement M
 feed-spec =
     tie.close
     (tie.spec
-    slice-aggregate-is-reachable
-    is-reachable-requires
-    slice-aggregate-step
-    step-requires
-    ended-with-requires
+    (λ c. search needs)
+    (λ c κs. search needs)
+    (λ c. search needs)
+    (λ c κs. search needs)
+    (λ c κs. search needs)
     returns
-    frameless-requires
+    (λ c κs. search needs)
     returns-2)

@@ -8,7 +8,7 @@ use lib.ListN.{length, set}
 use Rattle.refusal.specs.Outcome.{done, ends}
 use Rattle.octets.specs.Put.{put}
 use Rattle.octets.proofs.Put.{set-is-put, put-wrote}
-use Rattle.fields.specs.declared.first.MasterRole.{MasterRole}
+use Rattle.types.specs.declared.first.MasterRole.{MasterRole}
 use Rattle.types.specs.declared.address.Address.the-variants.{Short, Long}
 use Rattle.types.specs.Address.{firstByte, longBytes, addressBytes, addressWritten}
 use Rattle.types.proofs.Addresses.{address-fits, address-refused}
@@ -37,20 +37,11 @@ long-stored m b f t n buffer {v} {after} e w h =
 masked-low : (a mask : ℕ) → mask < 64 → bitAnd a mask < 64
 masked-low a mask h = omega (arith, and-le-r a mask)
 
-enum-known-self : tie.Need-enum-known-self
-enum-known-self c = search needs
-
 returns : tie.Need-returns
 returns c = let a = c .before .before .before .before .before .args in sym (address-refused (a .self) (a .buf .now) (rw (c .before .before .self .given .1) (c .if1 .taken)))
 
 first-byte-requires : tie.Need-first-byte-requires
 first-byte-requires c κs = search (masked-low, needs)
-
-slice-write-buf : tie.Need-slice-write-buf
-slice-write-buf c = search needs
-
-enum-known-self-2 : tie.Need-enum-known-self-2
-enum-known-self-2 c = search needs
 
 returns-2 : tie.Need-returns-2
 returns-2 c = let a = c .before .before .before .before .before .args in sym (address-refused (a .self) (a .buf .now) (rw (c .before .before .self2 .given .1) (c .if2 .taken)))
@@ -58,19 +49,10 @@ returns-2 c = let a = c .before .before .before .before .before .args in sym (ad
 first-byte-requires-2 : tie.Need-first-byte-requires-2
 first-byte-requires-2 c κs = search (masked-low, needs)
 
-write-long-requires : tie.Need-write-long-requires
-write-long-requires c κs = search needs
-
-same-length : tie.Need-same-length
-same-length c = search needs
-
 returns-3 : tie.Need-returns-3
 returns-3 c =
     let a = c .before .before .before .before .before .before .args in
     rw (c .before .before .before .self .given .1) (short-stored _ _ _ (a .buf .now) (c .first-byte .ensures) (c .before .if1 .left))
-
-same-length-2 : tie.Need-same-length-2
-same-length-2 c = search needs
 
 returns-4 : tie.Need-returns-4
 returns-4 c =
@@ -81,15 +63,15 @@ pub encode-spec : {M : Type 1} → statement M
 encode-spec =
     tie.close
     (tie.spec
-    enum-known-self
+    (λ c. search needs)
     returns
     first-byte-requires
-    slice-write-buf
-    enum-known-self-2
+    (λ c. search needs)
+    (λ c. search needs)
     returns-2
     first-byte-requires-2
-    write-long-requires
-    same-length
+    (λ c κs. search needs)
+    (λ c. search needs)
     returns-3
-    same-length-2
+    (λ c. search needs)
     returns-4)

@@ -1,2 +1,0 @@
--- What a call's answer is in document 01's numbers.
-pub mod Answers

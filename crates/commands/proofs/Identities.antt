@@ -1,0 +1,92 @@
+-- What reading an identity comes to, case by case, and that its ten fields hold just the twelve bytes.
+use Prim.Native.Nat.{ℕ, _+_, _*_, _/_, _%_, _≤_, _<_}
+use native.Mathlib.Omega.{arith}
+use mathlib.Core.Path.{_≡_, sym, ap, ap₂, _∙_}
+use mathlib.Core.List.{List, [], _∷_, _++_}
+use lib.ListN.{length, getD, take}
+use lib.Dec.{lit<}
+use borrow.Author.Tests.{lt-ltb, le-ltb}
+use Rattle.octets.specs.Digits.{Below, digits, fromDigits}
+use Rattle.octets.proofs.Digits.{digits-from, from-digits-whole}
+use Rattle.commands.specs.declared.identity.DeviceIdentity.{DeviceIdentity}
+use Rattle.commands.specs.Identity.{identityAt, identityBytes, Ranged, identified, refused, identity}
+
+module _ (bs : List ℕ) where
+  pub identity-short : length bs < 12 → identity bs ≡ refused 3 []
+  unfolding identity
+  identity-short h = rw (lt-ltb (length bs) 12 h)
+
+  identity-whole : 12 ≤ length bs → identity bs ≡ identified (identityAt bs)
+  unfolding identity
+  identity-whole h = rw (le-ltb (length bs) 12 h)
+
+-- an identity by the three fields that are computed from more than one byte or from part of one
+abbrev pub identityWith : List ℕ → ℕ → ℕ → ℕ → DeviceIdentity
+identityWith bs type signalling number = record {
+  «expansion_code» = getD bs 0 0;
+  «expanded_device_type» = type;
+  «min_preamble_count» = getD bs 3 0;
+  «hart_revision» = getD bs 4 0;
+  «device_revision» = getD bs 5 0;
+  «software_revision» = getD bs 6 0;
+  «hardware_revision» = getD bs 7 0 / 8;
+  «physical_signaling» = signalling;
+  flags = getD bs 8 0;
+  «device_id» = number;
+}
+
+pub identity-made : (bs : List ℕ) {type signalling number : ℕ} → 12 ≤ length bs → type ≡ fromDigits 256 (getD bs 1 0 ∷ getD bs 2 0 ∷ []) → signalling ≡ getD bs 7 0 % 8
+    → number ≡ fromDigits 256 (getD bs 9 0 ∷ getD bs 10 0 ∷ getD bs 11 0 ∷ []) → identified (identityWith bs type signalling number) ≡ identity bs
+identity-made bs {type} {signalling} {number} h t g n =
+    ap (λ (x : ℕ). identified (identityWith bs x signalling number)) t
+    ∙ ap₂ (λ (x y : ℕ). identified (identityWith bs (fromDigits 256 (getD bs 1 0 ∷ getD bs 2 0 ∷ [])) x y)) g n
+    ∙ sym (identity-whole bs h)
+
+-- twelve bytes or more, one by one
+by-twelve : (P : List ℕ → Type 0) → ((b0 b1 b2 b3 b4 b5 b6 b7 b8 b9 b10 b11 : ℕ) (rest : List ℕ) → P (b0 ∷ b1 ∷ b2 ∷ b3 ∷ b4 ∷ b5 ∷ b6 ∷ b7 ∷ b8 ∷ b9 ∷ b10 ∷ b11 ∷ rest)) → (bs : List ℕ) → 12 ≤ length bs → P bs
+by-twelve P f [] h = absurd (omega arith)
+by-twelve P f (b0 ∷ []) h = absurd (omega arith)
+by-twelve P f (b0 ∷ b1 ∷ []) h = absurd (omega arith)
+by-twelve P f (b0 ∷ b1 ∷ b2 ∷ []) h = absurd (omega arith)
+by-twelve P f (b0 ∷ b1 ∷ b2 ∷ b3 ∷ []) h = absurd (omega arith)
+by-twelve P f (b0 ∷ b1 ∷ b2 ∷ b3 ∷ b4 ∷ []) h = absurd (omega arith)
+by-twelve P f (b0 ∷ b1 ∷ b2 ∷ b3 ∷ b4 ∷ b5 ∷ []) h = absurd (omega arith)
+by-twelve P f (b0 ∷ b1 ∷ b2 ∷ b3 ∷ b4 ∷ b5 ∷ b6 ∷ []) h = absurd (omega arith)
+by-twelve P f (b0 ∷ b1 ∷ b2 ∷ b3 ∷ b4 ∷ b5 ∷ b6 ∷ b7 ∷ []) h = absurd (omega arith)
+by-twelve P f (b0 ∷ b1 ∷ b2 ∷ b3 ∷ b4 ∷ b5 ∷ b6 ∷ b7 ∷ b8 ∷ []) h = absurd (omega arith)
+by-twelve P f (b0 ∷ b1 ∷ b2 ∷ b3 ∷ b4 ∷ b5 ∷ b6 ∷ b7 ∷ b8 ∷ b9 ∷ []) h = absurd (omega arith)
+by-twelve P f (b0 ∷ b1 ∷ b2 ∷ b3 ∷ b4 ∷ b5 ∷ b6 ∷ b7 ∷ b8 ∷ b9 ∷ b10 ∷ []) h = absurd (omega arith)
+by-twelve P f (b0 ∷ b1 ∷ b2 ∷ b3 ∷ b4 ∷ b5 ∷ b6 ∷ b7 ∷ b8 ∷ b9 ∷ b10 ∷ b11 ∷ rest) h = f b0 b1 b2 b3 b4 b5 b6 b7 b8 b9 b10 b11 rest
+
+-- the fields' bytes are the bytes that were read: nothing of them is lost
+pub identity-back : (bs : List ℕ) → Below 256 bs → 12 ≤ length bs → identityBytes (identityAt bs) ≡ take 12 bs
+identity-back bs b h = by-twelve (λ (l : List ℕ). Below 256 l → identityBytes (identityAt l) ≡ take 12 l) each bs h b
+  where
+    each : (b0 b1 b2 b3 b4 b5 b6 b7 b8 b9 b10 b11 : ℕ) (rest : List ℕ) → let l = b0 ∷ b1 ∷ b2 ∷ b3 ∷ b4 ∷ b5 ∷ b6 ∷ b7 ∷ b8 ∷ b9 ∷ b10 ∷ b11 ∷ rest in Below 256 l → identityBytes (identityAt l) ≡ take 12 l
+    each b0 b1 b2 b3 b4 b5 b6 b7 b8 b9 b10 b11 rest k =
+        let type : digits 256 2 (fromDigits 256 (b1 ∷ b2 ∷ [])) ≡ b1 ∷ b2 ∷ [] = digits-from 256 (b1 ∷ b2 ∷ []) (k .1 .0, (k .1 .1 .0, tt)) in
+        let number : digits 256 3 (fromDigits 256 (b9 ∷ b10 ∷ b11 ∷ [])) ≡ b9 ∷ b10 ∷ b11 ∷ [] = digits-from 256 (b9 ∷ b10 ∷ b11 ∷ []) (k .1 .1 .1 .1 .1 .1 .1 .1 .1 .0, (k .1 .1 .1 .1 .1 .1 .1 .1 .1 .1 .0, (k .1 .1 .1 .1 .1 .1 .1 .1 .1 .1 .1 .0, tt))) in
+        let byte : b7 / 8 * 8 + b7 % 8 ≡ b7 = omega arith in
+        ap (λ (x : List ℕ). (b0 ∷ x) ++ (b3 ∷ b4 ∷ b5 ∷ b6 ∷ []) ++ ((b7 / 8 * 8 + b7 % 8) ∷ b8 ∷ digits 256 3 (fromDigits 256 (b9 ∷ b10 ∷ b11 ∷ [])))) type
+        ∙ ap₂ (λ (x : ℕ) (y : List ℕ). b0 ∷ b1 ∷ b2 ∷ b3 ∷ b4 ∷ b5 ∷ b6 ∷ x ∷ b8 ∷ y) byte number
+
+-- the fields come back from their bytes, where each is one that its bits can hold
+pub fields-back : (i : DeviceIdentity) (rest : List ℕ) → Ranged i → identityAt (identityBytes i ++ rest) ≡ i
+fields-back i rest (t, h, g, n) =
+    let made : ℕ → ℕ → ℕ → ℕ → DeviceIdentity = λ type hardware signalling number. record {
+      «expansion_code» = i .«expansion_code»;
+      «expanded_device_type» = type;
+      «min_preamble_count» = i .«min_preamble_count»;
+      «hart_revision» = i .«hart_revision»;
+      «device_revision» = i .«device_revision»;
+      «software_revision» = i .«software_revision»;
+      «hardware_revision» = hardware;
+      «physical_signaling» = signalling;
+      flags = i .flags;
+      «device_id» = number;
+    } in
+    let byte = i .«hardware_revision» * 8 + i .«physical_signaling» in
+    let high : byte / 8 ≡ i .«hardware_revision» = omega arith in
+    let low : byte % 8 ≡ i .«physical_signaling» = omega arith in
+    ap₂ (λ (x y : ℕ). made x (byte / 8) (byte % 8) y) (from-digits-whole 256 2 (i .«expanded_device_type») (lit< tt) t) (from-digits-whole 256 3 (i .«device_id») (lit< tt) n)
+    ∙ ap₂ (λ (x y : ℕ). made (i .«expanded_device_type») x y (i .«device_id»)) high low

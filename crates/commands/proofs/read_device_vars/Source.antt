@@ -1,0 +1,82 @@
+-- read_device_vars.rs never stops, and does what document 01 says of the crate's mode: its lines (specs/Source.antt) come to what
+-- specs/Variables.antt gives.
+use Prim.Native.Nat.{ℕ, zero, suc, _+_, _*_, _-_, _≤_}
+use native.Mathlib.Omega.{arith}
+use mathlib.Core.Path.{_≡_, refl, sym, ap, _∙_}
+use mathlib.Core.Bool.{Bool, true, false, cond}
+use mathlib.Core.List.{List, [], _∷_, _++_, append-nil}
+use lib.ListN.{length, getD, replicate, length-append}
+use lib.Seq.{append-snoc}
+use lib.Dec.{ltb}
+use borrow.Author.Tests.{ltb-true, ltb-false, lt-ltb, le-ltb}
+use Rattle.refusal.specs.Outcome.{ends, done, refuses}
+use Rattle.octets.specs.Digits.{fromDigits}
+use Rattle.octets.specs.Put.{put}
+use Rattle.octets.specs.Source.{Run, comes, Given, gives}
+use Rattle.octets.proofs.Put.{put-nil, length-put, put-snoc, put-wrote}
+use Rattle.packed_string.specs.declared.text_group.Mode.the-variants.{Crate}
+use Rattle.framing.specs.Payload.{carries}
+use Rattle.commands.specs.declared.read_device_vars.DeviceVariable.{DeviceVariable}
+use Rattle.commands.specs.Variables.{requested, variable, variableAt, groupsOf, firstVariables, noVariable, reads, variablesRead}
+use Rattle.commands.specs.VariablesSource.{codeLoop, sourceEncoded, fromBeBytes, push, groupAt, groupLoop, sourceDecoded, responseOf}
+use Rattle.commands.proofs.read_device_vars.Calls.{requests-no-room, requests, crate-reads}
+use Rattle.commands.proofs.read_device_vars.Groups.{length-first}
+
+code-loop : (codes bs l : List ℕ) (i : ℕ) (rest : List ℕ → Run) → length bs ≡ i → i + length codes ≤ length l → codeLoop codes i (put l 0 bs) rest ≡ rest (put l 0 (bs ++ codes))
+code-loop [] bs l i rest e h = ap (λ (r : List ℕ). rest (put l 0 r)) (sym (append-nil bs))
+code-loop (code ∷ codes) bs l i rest e h =
+    let same : length (put l 0 bs) ≡ length l = length-put l 0 bs (omega arith) in
+    rw (lt-ltb i (length (put l 0 bs)) (omega arith), put-snoc l 0 bs code i (omega arith) (omega arith))
+    (code-loop codes (bs ++ (code ∷ [])) l (i + 1) rest (omega (arith, length-append bs (code ∷ []))) (omega arith)
+    ∙ ap (λ (r : List ℕ). rest (put l 0 r)) (append-snoc bs code codes))
+
+pub encode-is-source : (codes buffer : List ℕ) → length codes ≤ 8 → sourceEncoded codes buffer ≡ comes (requested codes buffer)
+encode-is-source codes buffer few = by (ltb (length buffer) (length codes)) refl
+  where
+    end : List ℕ → Run
+    end buf = comes (ends (done (length codes ∷ [])) buf)
+
+    by : (small : Bool) → ltb (length buffer) (length codes) ≡ small → cond small (comes (refuses 2 [] buffer)) (codeLoop codes 0 buffer end) ≡ comes (requested codes buffer)
+    by true t = ap comes (sym (requests-no-room codes buffer few (ltb-true (length buffer) (length codes) t)))
+    by false t =
+        let room : length codes ≤ length buffer = ltb-false (length buffer) (length codes) t in
+        ap (λ (b : List ℕ). codeLoop codes 0 b end) (sym (put-nil buffer 0))
+        ∙ code-loop codes [] buffer 0 end refl (omega arith)
+        ∙ ap comes (put-wrote buffer codes refl refl ∙ sym (requests codes buffer few room))
+
+bytes-number : (a b c d : ℕ) → fromBeBytes a b c d ≡ fromDigits 256 (a ∷ b ∷ c ∷ d ∷ [])
+bytes-number a b c d = omega arith
+
+group-at : (bs : List ℕ) (base : ℕ) (rest : DeviceVariable → Given (List DeviceVariable)) → base + 8 ≤ length bs → groupAt bs base rest ≡ rest (variableAt bs base)
+group-at bs base rest h =
+    rw (
+      lt-ltb base (length bs) (omega arith),
+      lt-ltb (base + 1) (length bs) (omega arith),
+      lt-ltb (base + 2) (length bs) (omega arith),
+      lt-ltb (base + 3) (length bs) (omega arith),
+      lt-ltb (base + 4) (length bs) (omega arith),
+      lt-ltb (base + 5) (length bs) (omega arith),
+      lt-ltb (base + 6) (length bs) (omega arith),
+      lt-ltb (base + 7) (length bs) (omega arith),
+    )
+    (ap (λ (n : ℕ). rest (variable (getD bs base 0) (getD bs (base + 1) 0) (getD bs (base + 2) 0) n (getD bs (base + 7) 0)))
+    (bytes-number (getD bs (base + 3) 0) (getD bs (base + 4) 0) (getD bs (base + 5) 0) (getD bs (base + 6) 0)))
+
+-- no group of the loop is cut off, and none is pushed as the ninth
+group-loop : (bs : List ℕ) (turns i n : ℕ) → i + turns ≡ n → n * 8 ≤ length bs → n ≤ 8 → groupLoop bs turns i (firstVariables bs i) ≡ gives (firstVariables bs n)
+group-loop bs zero i n e h k = let same : i ≡ n = omega arith in ap (λ (m : ℕ). gives (firstVariables bs m)) same
+group-loop bs (suc turns) i n e h k =
+    let next : DeviceVariable → Given (List DeviceVariable) = λ v. groupLoop bs turns (suc i) (push (firstVariables bs i) v) in
+    let room : ltb (length (firstVariables bs i)) 8 ≡ true = lt-ltb (length (firstVariables bs i)) 8 (omega (arith, length-first bs i)) in
+    ap (λ (t : Bool). cond t (gives (firstVariables bs i)) (groupAt bs (i * 8) next)) (le-ltb (length bs) (i * 8 + 8) (omega arith))
+    ∙ group-at bs (i * 8) next (omega arith)
+    ∙ ap (λ (t : Bool). groupLoop bs turns (suc i) (cond t (firstVariables bs (suc i)) (firstVariables bs i))) room
+    ∙ group-loop bs turns (suc i) n (omega arith) h k
+
+-- the Rust's Vec, and our response, which is that Vec's
+pub decode-is-source : (bs : List ℕ) → let vs = firstVariables bs (groupsOf (length bs)) in (sourceDecoded bs ≡ gives vs) × (variablesRead Crate bs ≡ responseOf vs)
+decode-is-source bs =
+    let n = groupsOf (length bs) in (
+      group-loop bs n 0 n (omega arith) (omega arith) (omega arith),
+      crate-reads bs ∙ ap (λ (k : ℕ). reads carries k (firstVariables bs n ++ replicate (8 - k) noVariable)) (sym (length-first bs n)),
+    )

@@ -1,0 +1,27 @@
+-- Each promise of this module leaves one outcome.
+use mathlib.Core.Path.{refl, sym, _∙_}
+use denote.Ref.{now}
+use Rattle.refusal.specs.Outcome.{replyOf}
+use Rattle.refusal.specs.Determined.{Determined}
+use Rattle.refusal.proofs.Known.{agree, agree-alone, written-known}
+use Rattle.commands.proofs.Determined.{identity-known}
+use Rattle.commands.proofs.read_unique_id_by_tag.encode_data.Kinds as encode-data-kinds
+use Rattle.commands.proofs.read_unique_id_by_tag.encode_data.Reads as encode-data-reads
+use Rattle.commands.proofs.read_unique_id_by_tag.decode_data.Kinds as decode-data-kinds
+use Rattle.commands.proofs.read_unique_id_by_tag.decode_data.Reads as decode-data-reads
+use Rattle.commands.proofs.read_unique_id_by_tag.decode_tag.Kinds as decode-tag-kinds
+use Rattle.commands.proofs.read_unique_id_by_tag.decode_tag.Reads as decode-tag-reads
+use Rattle.commands.proofs.read_unique_id_by_tag.read_frame.Kinds as read-frame-kinds
+use Rattle.commands.proofs.read_unique_id_by_tag.read_frame.Reads as read-frame-reads
+
+pub encode-data : Determined 1 encode-data-kinds.ps encode-data-kinds.r encode-data-reads.Post (λ κs x. now (x .1 .1 .0))
+encode-data κs a r s x y = agree replyOf written-known
+
+pub decode-data : Determined 1 decode-data-kinds.ps decode-data-kinds.r decode-data-reads.Post (λ κs x. tt {0})
+decode-data κs a r s x y = λ p q. (identity-known r s (p ∙ sym q), refl)
+
+pub decode-tag : Determined 0 decode-tag-kinds.ps decode-tag-kinds.r decode-tag-reads.Post (λ κs x. tt {0})
+decode-tag κs a r s x y = agree-alone
+
+pub read-frame : Determined 1 read-frame-kinds.ps read-frame-kinds.r read-frame-reads.Post (λ κs x. tt {0})
+read-frame κs a r s x y = λ p q. (identity-known r s (p ∙ sym q), refl)

@@ -1,0 +1,38 @@
+-- A refusal is passed on as it is, and what is carried is read behind the status bytes.
+use mathlib.Core.Path.{_≡_, ap, _∙_}
+use borrow.Author.Needs.{needs}
+use Rattle.octets.specs.Part.{partOf}
+use Rattle.framing.specs.declared.payload.PayloadVerdict.{PayloadVerdict}
+use Rattle.framing.specs.Payload.{judgementOf}
+use Rattle.framing.proofs.Payloads.{passed-carried, passed-refused}
+use Rattle.commands.specs.TagDescriptorDate.{fieldsOf, nothingRead, refusedRead, fieldsRead}
+use Rattle.commands.proofs.write_tag_descriptor_date.read_frame.Statement.{statement}
+use Rattle.commands.proofs.write_tag_descriptor_date.read_frame.Tie as tie
+
+returns : tie.Need-returns
+returns c =
+    let a = c .before .before .before .before .before .args in
+    let told = c .before .enum-told2 .given .1 in
+    let said : fieldsOf (c .refused .result) ≡ nothingRead (judgementOf (c .before .before .before .typed-verdict .result)) = c .refused .ensures in
+    said
+    ∙ ap (λ (v : PayloadVerdict). nothingRead (judgementOf v)) told
+    ∙ passed-refused (fieldsRead (a .mode)) refusedRead 18 (a .frame-type) (a .command) (partOf (a .«data»)) told (c .before .before .before .typed-verdict .ensures)
+
+returns-2 : tie.Need-returns-2
+returns-2 c =
+    let a = c .before .before .before .before .before .before .args in
+    c .decode-data .ensures
+    ∙ passed-carried (fieldsRead (a .mode)) refusedRead 18 (a .frame-type) (a .command) (partOf (a .«data»)) (c .before .before .enum-told .given .1) (c .before .before .before .before .typed-verdict .ensures) (c .before .payload-part .ensures)
+
+pub read-frame-spec : {M : Type 1} → statement M
+read-frame-spec =
+    tie.close
+    (tie.spec
+    (λ c κs. search needs)
+    (λ c. search needs)
+    (λ c. search needs)
+    (λ c κs. search needs)
+    returns
+    (λ c κs. search needs)
+    (λ c κs. search needs)
+    returns-2)

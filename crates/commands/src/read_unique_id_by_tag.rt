@@ -1,0 +1,56 @@
+// Command 11 (commands/read_unique_id_by_tag.rs), its text in both modes: the request, the response,
+// which is an identity, and the response straight from a frame.
+use crate::identity::DeviceIdentity;
+use crate::identity::IdentityRead;
+use crate::text_in_mode::decode_in;
+use crate::text_in_mode::encode_in;
+use framing::PayloadVerdict;
+use framing::payload_part;
+use framing::typed_verdict;
+use packed_string::Mode;
+use refusal::Refusal;
+use refusal::Written;
+use types::FrameType;
+use types::consts::commands::READ_UNIQUE_ID_BY_TAG;
+ghost use mathlib.Core.Path.{_≡_};
+ghost use Rattle.refusal.specs.Outcome.{ends, replyOf};
+ghost use Rattle.framing.specs.Payload.{typed, passedOn};
+ghost use Rattle.commands.specs.Identity.{identifiedOf, identity, refused};
+ghost use Rattle.commands.specs.Modes.{unpackedText};
+ghost use Rattle.commands.specs.Tag.{tagRequested};
+
+// Writes the tag, packed.
+pub fn encode_data(mode: Mode, tag: [u8; 8], buf: &mut [u8]) -> Written
+    ensures { λ r. ⌜ ends (replyOf r) (now (buf .exit)) ≡ tagRequested mode tag (now (buf .entry)) ⌝ }
+{
+    if buf.len() < 6 {
+        return Written::Refused(Refusal::BufferTooSmall);
+    }
+    encode_in(mode, &tag, &mut buf[..6])
+}
+
+pub fn decode_data(data: &[u8]) -> IdentityRead
+    ensures { λ r. ⌜ identifiedOf r ≡ identity (now («data» .entry)) ⌝ }
+{
+    DeviceIdentity::decode(data)
+}
+
+// The eight characters of a packed tag.
+pub fn decode_tag(mode: Mode, packed: [u8; 6]) -> [u8; 8]
+    ensures { λ r. ⌜ r ≡ unpackedText mode packed ⌝ }
+{
+    let mut tag = [0x20u8; 8];
+    decode_in(mode, &packed, &mut tag);
+    tag
+}
+
+// The identity that a frame carries, or why it carries none.
+pub fn read_frame(frame_type: FrameType, command: u8, data: &[u8]) -> IdentityRead
+    ensures { λ r. ⌜ identifiedOf r ≡ passedOn identity refused (typed 11 «frame_type» command (now («data» .entry))) (now («data» .entry)) ⌝ }
+{
+    let verdict = typed_verdict(READ_UNIQUE_ID_BY_TAG, frame_type, command, data);
+    let PayloadVerdict::Refused(refusal) = verdict else {
+        return DeviceIdentity::decode(payload_part(frame_type, data));
+    };
+    IdentityRead::Refused(refusal)
+}

@@ -1,0 +1,108 @@
+// Command 18 (commands/write_tag_descriptor_date.rs), its text in both modes: the request, the
+// response, which has the same layout, and the response straight from a frame.
+use crate::text_in_mode::bad_place_in;
+use crate::text_in_mode::decode_in;
+use crate::text_in_mode::encode_in;
+use framing::PayloadVerdict;
+use framing::payload_part;
+use framing::typed_verdict;
+use packed_string::Mode;
+use refusal::Refusal;
+use refusal::Written;
+use types::FrameType;
+use types::consts::commands::WRITE_TAG_DESCRIPTOR_DATE;
+ghost use mathlib.Core.Path.{_≡_};
+ghost use Rattle.refusal.specs.Outcome.{ends, replyOf};
+ghost use Rattle.framing.specs.Payload.{judgementOf, typed, passedOn};
+ghost use Rattle.commands.specs.TagDescriptorDate.{requested, fieldsOf, nothingRead, refusedRead, fieldsRead};
+
+// Beside a refusal every byte is zero.
+pub struct WriteTagDescriptorDateResponse {
+    pub verdict: PayloadVerdict,
+    pub tag: [u8; 8],
+    pub descriptor: [u8; 16],
+    pub day: u8,
+    pub month: u8,
+    pub year: u8,
+}
+
+// Every character is looked at before the first byte is written.
+pub fn encode_data(
+    mode: Mode,
+    tag: [u8; 8],
+    descriptor: [u8; 16],
+    day: u8,
+    month: u8,
+    year: u8,
+    buf: &mut [u8],
+) -> Written
+    ensures { λ r. ⌜ ends (replyOf r) (now (buf .exit)) ≡ requested mode tag descriptor day month year (now (buf .entry)) ⌝ }
+{
+    if buf.len() < 21 {
+        return Written::Refused(Refusal::BufferTooSmall);
+    }
+    let place = bad_place_in(mode, &tag);
+    if place < 8 {
+        return Written::Refused(Refusal::BadCharacter(place));
+    }
+    let beyond = bad_place_in(mode, &descriptor);
+    if beyond < 16 {
+        return Written::Refused(Refusal::BadCharacter(8 + beyond));
+    }
+    encode_in(mode, &tag, &mut buf[0..6]);
+    encode_in(mode, &descriptor, &mut buf[6..18]);
+    buf[18] = day;
+    buf[19] = month;
+    buf[20] = year;
+    Written::Count(21)
+}
+
+fn refused(verdict: PayloadVerdict) -> WriteTagDescriptorDateResponse
+    ensures { λ r. ⌜ fieldsOf r ≡ nothingRead (judgementOf verdict) ⌝ }
+{
+    WriteTagDescriptorDateResponse {
+        verdict,
+        tag: [0u8; 8],
+        descriptor: [0u8; 16],
+        day: 0,
+        month: 0,
+        year: 0,
+    }
+}
+
+// Bytes past the layout are not looked at.
+pub fn decode_data(mode: Mode, data: &[u8]) -> WriteTagDescriptorDateResponse
+    ensures { λ r. ⌜ fieldsOf r ≡ fieldsRead mode (now («data» .entry)) ⌝ }
+{
+    if data.len() < 21 {
+        return refused(PayloadVerdict::Refused(Refusal::BufferTooShort));
+    }
+    let mut tag = [0x20u8; 8];
+    decode_in(mode, &data[0..6], &mut tag);
+    let mut descriptor = [0x20u8; 16];
+    decode_in(mode, &data[6..18], &mut descriptor);
+    WriteTagDescriptorDateResponse {
+        verdict: PayloadVerdict::Carried,
+        tag,
+        descriptor,
+        day: data[18],
+        month: data[19],
+        year: data[20],
+    }
+}
+
+// The response that a frame carries, or why it carries none.
+pub fn read_frame(
+    mode: Mode,
+    frame_type: FrameType,
+    command: u8,
+    data: &[u8],
+) -> WriteTagDescriptorDateResponse
+    ensures { λ r. ⌜ fieldsOf r ≡ passedOn (fieldsRead mode) refusedRead (typed 18 «frame_type» command (now («data» .entry))) (now («data» .entry)) ⌝ }
+{
+    let verdict = typed_verdict(WRITE_TAG_DESCRIPTOR_DATE, frame_type, command, data);
+    let PayloadVerdict::Carried = verdict else {
+        return refused(verdict);
+    };
+    decode_data(mode, payload_part(frame_type, data))
+}

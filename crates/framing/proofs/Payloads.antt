@@ -1,0 +1,81 @@
+-- When a frame's data carry a payload, and which part is then handed back: callers cite these and not the text of the definitions.
+use Prim.Native.Nat.{ℕ, _≤_}
+use native.Mathlib.Omega.{arith}
+use mathlib.Core.Path.{_≡_, refl, sym, ap, _∙_}
+use mathlib.Core.Logic.{_≢_, _↔_}
+use mathlib.Core.Bool.{Bool, true, false, cond, not}
+use mathlib.Core.List.{List, []}
+use lib.ListN.{length, getD, drop}
+use lib.Dec.{eqb}
+use borrow.Author.Tests.{ltb-false, eqb-true, not-false, le-ltb, eq-eqb, ne-eqb}
+use Rattle.refusal.specs.declared.Refusal.{Refusal}
+use Rattle.refusal.specs.Table.{numberOf, valuesOf}
+use Rattle.octets.specs.Part.{Part, from, emptyAt}
+use Rattle.octets.specs.Bit.{bit}
+use Rattle.types.specs.Delimiter.{typeNumber}
+use Rattle.types.specs.declared.delimiter.FrameType.{FrameType}
+use Rattle.types.specs.declared.delimiter.FrameType.the-variants.{Request, Response, Burst}
+use Rattle.framing.specs.declared.payload.PayloadVerdict.{PayloadVerdict}
+use Rattle.framing.specs.declared.payload.PayloadVerdict.the-variants.{Carried, Refused}
+use Rattle.framing.specs.Payload.{Judgement, carries, refused, judgementOf, judged, payload, payloadPart, typed, passedOn}
+
+-- a check that does not refuse
+passed : (fails : Bool) (n : ℕ) (vs : List ℕ) (rest : Judgement) → cond fails (refused n vs) rest ≡ carries → (fails ≡ false) × (rest ≡ carries)
+passed true n vs rest e = (cc, cc)
+passed false n vs rest e = (refl, e)
+
+judged-exactly : (t : FrameType) → t ≢ Request → (ds : List ℕ) → (judged ds ≡ carries) ↔ ((t ≢ Request) × (2 ≤ length ds) × (getD ds 0 0 ≡ 0))
+judged-exactly t other ds =
+    let first = getD ds 0 0 in (
+      λ e.
+          let long = passed _ _ _ _ e in
+          let no-error = passed (bit 7 first) _ _ _ (long .1) in
+          let no-code = passed (not (eqb first 0)) _ _ _ (no-error .1) in (other, ltb-false _ _ (long .0), eqb-true _ _ (not-false _ (no-code .0))),
+      λ h. rw (le-ltb (length ds) 2 (h .1), h .2),
+    )
+
+pub carries-exactly : (t : FrameType) (ds : List ℕ) → (payload t ds ≡ carries) ↔ ((t ≢ Request) × (2 ≤ length ds) × (getD ds 0 0 ≡ 0))
+unfolding payload
+carries-exactly Request ds = (λ e. let z : _≡_ {A = ℕ} 0 1 = cc in absurd (omega arith), λ h. absurd (h .0 refl))
+carries-exactly Response ds = judged-exactly Response (λ e. omega (arith, ap typeNumber e)) ds
+carries-exactly Burst ds = judged-exactly Burst (λ e. omega (arith, ap typeNumber e)) ds
+
+pub part-carried : (t : FrameType) (p : Part) → payload t (p .bytes) ≡ carries → payloadPart t p ≡ from 2 p
+unfolding payloadPart
+part-carried t p e = rw e
+
+pub part-refused : (t : FrameType) (p : Part) (n : ℕ) (vs : List ℕ) → payload t (p .bytes) ≡ refused n vs → payloadPart t p ≡ emptyAt p
+unfolding payloadPart
+part-refused t p n vs e = rw e
+
+module _ (wanted : ℕ) (t : FrameType) (command : ℕ) (ds : List ℕ) where
+  pub typed-same : command ≡ wanted → typed wanted t command ds ≡ payload t ds
+  unfolding typed
+  typed-same e = rw (eq-eqb command wanted e)
+
+  pub typed-other : command ≢ wanted → typed wanted t command ds ≡ refused 6 []
+  unfolding typed
+  typed-other n = rw (ne-eqb command wanted n)
+
+  -- what is carried for a command is carried at all
+  typed-carries : typed wanted t command ds ≡ carries → payload t ds ≡ carries
+  unfolding typed
+  typed-carries e = by (eqb command wanted) e
+    where
+      by : (same : Bool) → cond same (payload t ds) (refused 6 []) ≡ carries → payload t ds ≡ carries
+      by true f = f
+      by false f = cc
+
+-- a typed reading reads what stands behind the status bytes
+pub typed-part : (wanted : ℕ) (t : FrameType) (command : ℕ) (p : Part) → typed wanted t command (p .bytes) ≡ carries → payloadPart t p .bytes ≡ drop 2 (p .bytes)
+typed-part wanted t command p e = ap (λ (q : Part). q .bytes) (part-carried t p (typed-carries wanted t command (p .bytes) e))
+
+-- the two ways out of a typed reader, whatever it reads and however it refuses: the payload is read, or the verdict's refusal passed on
+module _ {A : Type 0} (read : List ℕ → A) (refuse : ℕ → List ℕ → A) (wanted : ℕ) (t : FrameType) (command : ℕ) (p : Part) {v : PayloadVerdict} where
+  pub passed-carried : {q : Part} → v ≡ Carried → judgementOf v ≡ typed wanted t command (p .bytes) → q ≡ payloadPart t p → read (q .bytes) ≡ passedOn read refuse (typed wanted t command (p .bytes)) (p .bytes)
+  passed-carried told said part =
+      let e : typed wanted t command (p .bytes) ≡ carries = sym said ∙ ap judgementOf told in
+      ap read (ap (λ (q : Part). q .bytes) part ∙ typed-part wanted t command p e) ∙ ap (λ (j : Judgement). passedOn read refuse j (p .bytes)) (sym e)
+
+  pub passed-refused : {r : Refusal} → v ≡ Refused r → judgementOf v ≡ typed wanted t command (p .bytes) → refuse (numberOf r) (valuesOf r) ≡ passedOn read refuse (typed wanted t command (p .bytes)) (p .bytes)
+  passed-refused told said = ap (λ (j : Judgement). passedOn read refuse j (p .bytes)) (sym (ap judgementOf told) ∙ said)

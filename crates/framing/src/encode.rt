@@ -1,0 +1,105 @@
+// From frames to bytes (encode.rs): head, data, check, each written at its place in the lent buffer.
+use octets::checksum_from;
+use octets::copy_into;
+use refusal::Refusal;
+use refusal::Written;
+use types::Address;
+use types::FrameType;
+use types::address_length;
+use types::consts::MAX_DATA_LENGTH;
+use types::consts::PREAMBLE_BYTE;
+use types::delimiter_byte;
+ghost use mathlib.Core.Path.{_≡_};
+ghost use Prim.Native.Nat.{_+_, _≤_};
+ghost use lib.ListN.{length};
+ghost use Rattle.refusal.specs.Outcome.{ends, replyOf};
+ghost use Rattle.octets.specs.Check.{check};
+ghost use Rattle.octets.specs.Put.{put};
+ghost use Rattle.types.specs.Address.{addressLength, isLong};
+ghost use Rattle.line.specs.Layout.{preambles};
+ghost use Rattle.framing.specs.Encode.{head, encoded};
+
+fn length_of(address: Address) -> usize
+    ensures { λ r. ⌜ r ≡ addressLength (isLong address) ⌝ }
+{
+    address_length(address.is_long()) as usize
+}
+
+fn write_preambles(buf: &mut [u8], n: usize)
+    requires { ⌜ n ≤ length (now buf) ⌝ }
+    ensures { λ _. ⌜ now (buf .exit) ≡ put (now (buf .entry)) 0 (preambles n) ⌝ }
+{
+    let mut pos = 0;
+    while pos < n {
+        buf[pos] = PREAMBLE_BYTE;
+        pos += 1;
+    }
+}
+
+// Everything in front of the data; returns the place where the data begin. It takes their count and
+// not the data, so that a writer of a command's own fields can put them in place.
+fn write_head(
+    frame_type: FrameType,
+    address: Address,
+    command: u8,
+    count: u8,
+    preamble_count: u8,
+    buf: &mut [u8],
+) -> usize
+    requires { ⌜ «preamble_count» + 3 + addressLength (isLong address) ≤ length (now buf) ⌝ }
+    ensures { λ r. ⌜ (r ≡ «preamble_count» + 3 + addressLength (isLong address)) × (now (buf .exit) ≡ put (now (buf .entry)) 0 (head «frame_type» address command count «preamble_count»)) ⌝ }
+{
+    let pos = preamble_count as usize;
+    write_preambles(buf, pos);
+    buf[pos] = delimiter_byte(frame_type, address.is_long());
+    let after = pos + 1;
+    address.encode(&mut buf[after..]);
+    let next = after + length_of(address);
+    buf[next] = command;
+    buf[next + 1] = count;
+    next + 2
+}
+
+// The check of a frame's head. Command and count, its last bytes, are taken by themselves: all of it was
+// stored byte by byte just before, and a read of eight bytes at once would wait for those stores.
+fn check_of_head(head: &[u8]) -> u8
+    requires { ⌜ 2 ≤ length (now head) ⌝ }
+    ensures { λ r. ⌜ r ≡ check (now (head .entry)) ⌝ }
+{
+    let next = head.len() - 2;
+    checksum_from(0, &head[..next]) ^ head[next] ^ head[next + 1]
+}
+
+// The whole frame to the front of the buffer, and how many bytes that is.
+pub fn encode_frame(
+    frame_type: FrameType,
+    address: Address,
+    command: u8,
+    data: &[u8],
+    preamble_count: u8,
+    buf: &mut [u8],
+) -> Written
+    ensures { λ r. ⌜ ends (replyOf r) (now (buf .exit)) ≡ encoded «frame_type» address command (now («data» .entry)) «preamble_count» (now (buf .entry)) ⌝ }
+{
+    if data.len() > MAX_DATA_LENGTH {
+        return Written::Refused(Refusal::DataTooLong);
+    }
+    let from = preamble_count as usize;
+    let total = from + 4 + length_of(address) + data.len();
+    if buf.len() < total {
+        return Written::Refused(Refusal::BufferTooSmall);
+    }
+    let at = write_head(
+        frame_type,
+        address,
+        command,
+        data.len() as u8,
+        preamble_count,
+        buf,
+    );
+    let checksum = checksum_from(check_of_head(&buf[from..at]), data);
+    copy_into(data, buf, at);
+    let to = at + data.len();
+    buf[to] = checksum;
+    Written::Count(total)
+}

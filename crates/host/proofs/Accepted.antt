@@ -1,0 +1,120 @@
+-- Storing and loading are inverse, and a block is accepted exactly if a run of bytes leads to it.
+use Prim.Native.Nat.{ℕ}
+use native.Mathlib.Omega.{arith}
+use mathlib.Core.Path.{_≡_, sym, ap, ap₂, subst, _∙_}
+use mathlib.Core.Bool.{Bool, true, _&&_}
+use mathlib.Core.List.{List, _++_}
+use lib.Dec.{eqb, ltb, leb, lit<}
+use lib.ListN.{length, take, drop, take-append-drop, length-drop}
+use lib.Seq.{take-at, drop-at, length-take-le}
+use borrow.Author.Tests.{eqb-true, eq-eqb, ltb-true, leb-true}
+use Rattle.octets.specs.Digits.{digits, fromDigits}
+use Rattle.octets.proofs.Digits.{length-digits, from-digits-whole, digits-from}
+use Rattle.types.specs.Address.{addressLength}
+use Rattle.types.proofs.Addresses.{address-length-le}
+use Rattle.line.specs.Pieces.{Bytes}
+use Rattle.line.proofs.Bytes.{bytes-left, bytes-right}
+use Rattle.line.specs.machine.Reachable.{reachableAt, claimOf, isClear, isRight}
+use Rattle.line.specs.machine.Feed.{Held, holding, fresh, reachable}
+use Rattle.line.specs.machine.Demand.{hears, SmallState, Value, Reached}
+use Rattle.line.specs.declared.state.State.{State}
+use Rattle.line.specs.declared.state.State.the-variants.{
+  Hunting,
+  Preamble,
+  Address,
+  Command,
+  ByteCount,
+  Data,
+  Checksum,
+}
+use Rattle.line.proofs.machine.Zeros.{and-first, and-second}
+use Rattle.line.proofs.machine.Exact.{reached-reachable, reachable-reached}
+use Rattle.line.proofs.machine.Small.{reached-value}
+use Rattle.host.specs.Header.{headerOf, stateAt}
+use Rattle.host.proofs.Headers.{Fitting, state-back, header-small, state-small}
+use Rattle.host.specs.Block.{blockSize, blockOf, headerIn, stateIn, heldIn, accepted}
+use Rattle.host.specs.Demand.{Brought}
+
+-- the numbers of a state that passes the test fit their fields
+fits-field : (s : State) → SmallState s → claimOf s .possible ≡ true → Fitting s
+fits-field Hunting z p = tt
+fits-field (Preamble n) z p = omega (arith, leb-true n 5 (and-second (ltb 0 n) (leb n 5) p))
+fits-field (Address h k) z p = (z .0, omega (arith, ltb-true k (addressLength (h .long)) p, address-length-le (h .long)))
+fits-field (Command h) z p = z
+fits-field (ByteCount h c) z p = z
+fits-field (Data h c e n) z p = z
+fits-field (Checksum h c e) z p = z
+
+possible : (d : Held) → reachable d ≡ true → claimOf (d .state) .possible ≡ true
+unfolding reachableAt
+possible d r =
+    let q = claimOf (d .state) in
+    and-first (q .possible) (isClear q (d .bytes) && isRight q (d .bytes)) (and-second (eqb (length (d .bytes)) 260) _ r)
+
+fitting : (d : Held) → Value d → reachable d ≡ true → Fitting (d .state)
+fitting d v r = fits-field (d .state) (v .state) (possible d r)
+
+-- what is stored is loaded again
+module _ (d : Held) (f : Fitting (d .state)) where
+  header-back : headerIn (blockOf d) ≡ headerOf (d .state)
+  header-back =
+      ap (fromDigits 256) (take-at (digits 256 6 (headerOf (d .state))) (d .bytes) 6 (length-digits 256 6 (headerOf (d .state))))
+      ∙ from-digits-whole 256 6 (headerOf (d .state)) (lit< tt) (header-small (d .state) f)
+
+  state-loaded : stateIn (blockOf d) ≡ d .state
+  state-loaded = ap stateAt header-back ∙ state-back (d .state) f
+
+  bytes-loaded : drop 6 (blockOf d) ≡ d .bytes
+  bytes-loaded = drop-at (digits 256 6 (headerOf (d .state))) (d .bytes) 6 (length-digits 256 6 (headerOf (d .state)))
+
+  held-loaded : heldIn (blockOf d) ≡ d
+  held-loaded = ap₂ holding state-loaded bytes-loaded
+
+pub value-back : (d : Held) → Value d → reachable d ≡ true → heldIn (blockOf d) ≡ d
+value-back d v r = held-loaded d (fitting d v r)
+
+pub held-back : (d : Held) → Reached hears fresh d → heldIn (blockOf d) ≡ d
+held-back d r = value-back d (reached-value d r) (reached-reachable d r)
+
+accepted-reachable : (block : List ℕ) → accepted block ≡ true → reachable (heldIn block) ≡ true
+unfolding accepted
+accepted-reachable block a = and-second (eqb (headerOf (stateIn block)) (headerIn block)) (reachable (heldIn block)) a
+
+accepted-size : (block : List ℕ) → accepted block ≡ true → length block ≡ blockSize
+unfolding reachableAt
+accepted-size block a =
+    let e : length (drop 6 block) ≡ 260 = eqb-true (length (drop 6 block)) 260 (and-first (eqb (length (drop 6 block)) 260) _ (accepted-reachable block a)) in
+    omega (arith, length-drop 6 block)
+
+-- what is loaded from an accepted block is stored as it was
+pub block-back : (block : List ℕ) → Bytes block → accepted block ≡ true → blockOf (heldIn block) ≡ block
+unfolding accepted
+block-back block k a =
+    let h = headerOf (stateIn block) in
+    let same : h ≡ headerIn block = eqb-true h (headerIn block) (and-first (eqb h (headerIn block)) (reachable (heldIn block)) a) in
+    let size : length (take 6 block) ≡ 6 = length-take-le 6 block (omega (arith, accepted-size block a)) in
+    let front : digits 256 6 h ≡ take 6 block =
+    ap (digits 256 6) same ∙ ap (λ (n : ℕ). digits 256 n (headerIn block)) (sym size) ∙ digits-from 256 (take 6 block) (bytes-left (take 6 block) (drop 6 block) (subst Bytes (sym (take-append-drop 6 block)) k)) in
+    ap (λ (q : List ℕ). q ++ drop 6 block) front ∙ take-append-drop 6 block
+
+-- a block is accepted if some run leads to it, and only then
+pub stored-accepted : (d : Held) → Value d → reachable d ≡ true → accepted (blockOf d) ≡ true
+unfolding accepted
+stored-accepted d v t =
+    let f : Fitting (d .state) = fitting d v t in
+    let same : headerOf (stateIn (blockOf d)) ≡ headerIn (blockOf d) = ap headerOf (state-loaded d f) ∙ sym (header-back d f) in
+    ap₂ (λ (x y : Bool). x && y) (eq-eqb (headerOf (stateIn (blockOf d))) (headerIn (blockOf d)) same) (ap reachable (held-loaded d f) ∙ t)
+
+pub brought-accepted : (block : List ℕ) → Brought block → accepted block ≡ true
+brought-accepted block b =
+    let d = b .decoder in
+    ap accepted (sym (b .is)) ∙ stored-accepted d (reached-value d (b .reached)) (reached-reachable d (b .reached))
+
+pub accepted-brought : (block : List ℕ) → Bytes block → accepted block ≡ true → Brought block
+accepted-brought block k a =
+    let v : Value (heldIn block) = record {
+      state = state-small (headerIn block);
+      bytes = bytes-right (take 6 block) (drop 6 block) (subst Bytes (sym (take-append-drop 6 block)) k);
+      whole = length-drop 6 block ∙ omega (arith, accepted-size block a);
+    } in
+    record { decoder = heldIn block; reached = reachable-reached (heldIn block) v (accepted-reachable block a); is = block-back block k a }

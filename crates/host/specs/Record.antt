@@ -1,0 +1,70 @@
+-- Document 01, 'For the C host': the record that the host is given where a piece is over.
+use Prim.Native.Nat.{ℕ, _+_}
+use mathlib.Core.Bool.{Bool, cond, _&&_}
+use mathlib.Core.List.{List, [], _∷_, _++_}
+use lib.Dec.{eqb, leb}
+use lib.ListN.{length}
+use Rattle.octets.specs.Put.{put}
+use Rattle.refusal.specs.declared.Refusal.{Refusal}
+use Rattle.refusal.specs.declared.Refusal.the-variants.{
+  DataTooLong,
+  BufferTooSmall,
+  BufferTooShort,
+  InvalidDelimiter,
+  ChecksumMismatch,
+  WrongFrame,
+  BadCharacter,
+  BadState,
+  CommError,
+  ResponseCode,
+}
+use Rattle.types.specs.Delimiter.{typeNumber}
+use Rattle.types.specs.Address.{readAddress, addressBytes}
+use Rattle.line.specs.Layout.{Wire}
+use Rattle.line.specs.Events.{Event, silence, found, refused}
+use Rattle.line.specs.machine.Room.{addressRoom, dataRoom, room}
+use Rattle.host.specs.Bits.{in-bits, packed}
+use Rattle.host.specs.Header.{longBit}
+
+-- the first byte: kind, type, long, and three zero bits
+abbrev pub firstOf : ℕ → ℕ → ℕ → ℕ
+firstOf kind type long = packed (in-bits 2 kind ∷ in-bits 2 type ∷ in-bits 1 long ∷ in-bits 3 0 ∷ [])
+
+-- kind 0, a frame: its address as we write it, the command, the count and the data
+abbrev pub frameRecord : Wire → List ℕ
+frameRecord w =
+    firstOf 0 (typeNumber (w .frameType)) (longBit (w .long)) ∷ (addressBytes (readAddress (w .long) (w .address)) ++ (w .command ∷ length (w .payload) ∷ w .payload))
+
+-- refusals 4 and 5 are kinds 1 and 2, each with the values that it carries. No other refuses what comes from a line
+abbrev pub refusalRecord : Refusal → List ℕ
+refusalRecord DataTooLong = []
+refusalRecord BufferTooSmall = []
+refusalRecord BufferTooShort = []
+refusalRecord (InvalidDelimiter b) = firstOf 1 0 0 ∷ b ∷ []
+refusalRecord (ChecksumMismatch expected actual) = firstOf 2 0 0 ∷ expected ∷ actual ∷ []
+refusalRecord WrongFrame = []
+refusalRecord (BadCharacter p) = []
+refusalRecord BadState = []
+refusalRecord (CommError b) = []
+refusalRecord (ResponseCode c) = []
+
+-- silence has none
+unfoldable pub recordOf : Event → List ℕ
+recordOf silence = []
+recordOf (found w) = frameRecord w
+recordOf (refused r) = refusalRecord r
+
+-- room for the longest: first byte, address, command, count and data
+abbrev pub recordRoom : ℕ
+recordRoom = 1 + addressRoom + 2 + dataRoom
+
+-- a record is written where the bytes beside a state are whole and the room has place for the longest; else nothing is, and its length
+-- is given as 0
+abbrev pub hasRoom : List ℕ → List ℕ → Bool
+hasRoom bytes lent = eqb (length bytes) room && leb recordRoom (length lent)
+
+abbrev pub recordLength : Event → List ℕ → List ℕ → ℕ
+recordLength e bytes lent = cond (hasRoom bytes lent) (length (recordOf e)) 0
+
+abbrev pub withRecord : Event → List ℕ → List ℕ → List ℕ
+withRecord e bytes lent = cond (hasRoom bytes lent) (put lent 0 (recordOf e)) lent

@@ -1,0 +1,11 @@
+pub mod Zeros
+pub mod Claims
+pub mod Padded
+pub mod Settled
+pub mod Image
+pub mod Demand
+pub mod Renamed
+pub mod Exact
+pub mod Small
+pub mod SourceAddress
+pub mod Source

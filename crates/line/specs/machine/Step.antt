@@ -1,0 +1,93 @@
+-- What a byte does to a decoder: to its state, and to the address and data bytes beside it.
+use Prim.Native.Nat.{ℕ, _+_}
+use mathlib.Core.Bool.{Bool, cond}
+use mathlib.Core.List.{List, [], _∷_}
+use lib.ListN.{set}
+use lib.Bits.{bitXor}
+use lib.Dec.{eqb, ltb}
+use Rattle.refusal.specs.Table.{refusalOf}
+use Rattle.types.specs.declared.delimiter.FrameType.{FrameType}
+use Rattle.types.specs.declared.delimiter.Delimiter.{Delimiter}
+use Rattle.types.specs.declared.delimiter.Delimiter.the-variants.{Known, Unknown}
+use Rattle.types.specs.Delimiter.{delimiterOf}
+use Rattle.types.specs.Address.{addressLength}
+use Rattle.line.specs.machine.Room.{addressRoom}
+use Rattle.line.specs.declared.state.Head.{Head}
+use Rattle.line.specs.declared.state.State.{State}
+use Rattle.line.specs.declared.state.State.the-variants.{
+  Hunting,
+  Preamble,
+  Address,
+  Command,
+  ByteCount,
+  Data,
+  Checksum,
+}
+use Rattle.line.specs.declared.moved.Moved.{Moved}
+use Rattle.line.specs.declared.moved.Ended.{Ended}
+use Rattle.line.specs.declared.moved.Ended.the-variants.{Nothing, Frame, Refused}
+
+-- the piece goes on, or is over
+abbrev pub going : State → Moved
+going s = record { state = s; ended = Nothing }
+
+abbrev pub over : Ended → Moved
+over e = record { state = Hunting; ended = e }
+
+-- the first FF of a preamble, or noise
+abbrev pub hunted : ℕ → Moved
+hunted b = going (cond (eqb b 0xFF) (Preamble 1) Hunting)
+
+-- what a delimiter said, and the check so far
+abbrev pub headOf : FrameType → Bool → ℕ → Head
+headOf t long check = record { «frame_type» = t; long = long; check = check }
+
+-- the check begins with the delimiter
+abbrev pub delimited : ℕ → Delimiter → Moved
+delimited b (Known t long) = going (Address (headOf t long b) 0)
+delimited b Unknown = over (Refused (refusalOf 4 (b ∷ [])))
+
+-- five FF are enough, and are not counted past; behind fewer any other byte is passed over
+abbrev pub preambled : ℕ → ℕ → Moved
+preambled n b =
+    cond (eqb b 0xFF) (going (Preamble (cond (ltb n 5) (n + 1) 5))) (cond (ltb n 5) (going Hunting) (delimited b (delimiterOf b)))
+
+-- one byte more in the running check
+abbrev pub mixed : Head → ℕ → Head
+mixed h b = headOf (h .«frame_type») (h .long) (bitXor (h .check) b)
+
+-- address byte k: another one follows, or the command
+abbrev pub addressed : Head → ℕ → ℕ → Moved
+addressed h k b = going (cond (ltb (k + 1) (addressLength (h .long))) (Address (mixed h b) (k + 1)) (Command (mixed h b)))
+
+-- the byte count: data follow, or the check
+abbrev pub counted : Head → ℕ → ℕ → Moved
+counted h c b = going (cond (eqb b 0) (Checksum (mixed h b) c 0) (Data (mixed h b) c b 0))
+
+-- data byte n of e
+abbrev pub loaded : Head → ℕ → ℕ → ℕ → ℕ → Moved
+loaded h c e n b = going (cond (ltb (n + 1) e) (Data (mixed h b) c e (n + 1)) (Checksum (mixed h b) c e))
+
+-- the check byte ends the piece
+abbrev pub checked : Head → ℕ → ℕ → ℕ → Moved
+checked h c e b = over (cond (eqb b (h .check)) (Frame h c e) (Refused (refusalOf 5 (h .check ∷ b ∷ []))))
+
+-- the state behind a byte, and what ended with it
+abbrev pub movedAt : State → ℕ → Moved
+movedAt Hunting b = hunted b
+movedAt (Preamble n) b = preambled n b
+movedAt (Address h k) b = addressed h k b
+movedAt (Command h) b = going (ByteCount (mixed h b) b)
+movedAt (ByteCount h c) b = counted h c b
+movedAt (Data h c e n) b = loaded h c e n b
+movedAt (Checksum h c e) b = checked h c e b
+
+-- an address byte and a data byte are kept, each at its place, where there is one
+abbrev pub storedAt : State → List ℕ → ℕ → List ℕ
+storedAt Hunting bs b = bs
+storedAt (Preamble n) bs b = bs
+storedAt (Address h k) bs b = set bs k b
+storedAt (Command h) bs b = bs
+storedAt (ByteCount h c) bs b = bs
+storedAt (Data h c e n) bs b = set bs (addressRoom + n) b
+storedAt (Checksum h c e) bs b = bs

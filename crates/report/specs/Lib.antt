@@ -1,2 +1,0 @@
--- When a comparison is right.
-pub mod Tells
