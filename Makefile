@@ -6,19 +6,19 @@ PREFIX = /usr/local
 LIBDIR = $(PREFIX)/lib
 INCLUDEDIR = $(PREFIX)/include
 
-ARCHIVE = target/staticlib/libhost.a
+ARCHIVE = target/staticlib/libhart.a
 INSTALLED_ARCHIVE = $(DESTDIR)$(LIBDIR)/libhart.a
 INSTALLED_HEADER = $(DESTDIR)$(INCLUDEDIR)/hart.h
 INSTALLED_FLAGS = $(DESTDIR)$(LIBDIR)/pkgconfig/hart.pc
 
 all:
-	rt staticlib host
+	rt staticlib hart
 
 check:
 	c/run
 
 $(ARCHIVE):
-	rt staticlib host
+	rt staticlib hart
 
 install: $(ARCHIVE)
 	mkdir -p "$(DESTDIR)$(LIBDIR)/pkgconfig" "$(DESTDIR)$(INCLUDEDIR)"

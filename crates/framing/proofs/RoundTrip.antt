@@ -17,8 +17,8 @@ use Rattle.line.specs.Pieces.{Piece, noise, shortRun, badDelimiter, frame, badC
 use Rattle.line.specs.Events.{Event, silence, found, verdict, silent, saidBy, dictated, gather, framesIn}
 use Rattle.line.proofs.Layouts.{length-frame}
 use Rattle.line.proofs.Bytes.{bytes-append, bytes-replicate}
-use Rattle.framing.specs.Encode.{layout, total}
-use Rattle.framing.proofs.Layouts.{length-layout, encoded-whole}
+use Rattle.line.specs.Encode.{layout, total}
+use Rattle.line.proofs.Encoded.{length-layout, encoded-whole}
 use Rattle.line.specs.machine.Frames.{frameOf, heardOf}
 use Rattle.framing.specs.RoundTrip.{Handed, written, IsDone, heardBack, HeardBehind, Lacks, NotFound}
 use Rattle.line.specs.declared.frame.Frame.{Frame}

@@ -1,5 +1,5 @@
 -- encode.rs never stops, and does what document 01 says of the encoder: on every call its lines (specs/Source.antt) come to the outcome that
--- specs/Encode.antt gives. An address written alone stops the Rust exactly where ours is refused.
+-- line's specs/Encode.antt gives. An address written alone stops the Rust exactly where ours is refused.
 use Prim.Native.Nat.{ℕ, zero, suc, _+_, _*_, _/_, _%_, _^_, _≤_, _<_}
 use native.Mathlib.Nat.{mod-eq-of-lt}
 use native.Mathlib.Omega.{arith}
@@ -27,7 +27,7 @@ use Rattle.types.specs.Delimiter.{delimiter}
 use Rattle.types.specs.Address.{addressLength, isLong, firstByte, addressBytes, addressWritten}
 use Rattle.types.proofs.Addresses.{address-fits, length-address}
 use Rattle.line.specs.Layout.{preambles, checkOf}
-use Rattle.framing.specs.Encode.{wireOf, layout, total, encoded}
+use Rattle.line.specs.Encode.{wireOf, layout, total, encoded}
 use Rattle.framing.specs.Source.{marked, sourceAddress, sourceAddressWritten, computeDelimiter, preambleLoop, lentFrom, sumLoop, dataLoop, sourceTail, sourceBody, sourceFrame}
 
 -- Stores in a row are the data loop, wherever they stand: what they write follows what stands at the front.

@@ -1,6 +1,6 @@
 -- What the encoder writes, with the Rust's own lines for it; what a decoder by value does and what is demanded of it; what it makes of
 -- what the encoder wrote; and what a response carries.
-pub mod Encode
+pub mod Head
 pub mod Source
 pub mod Feed
 pub mod Demand

@@ -12,7 +12,7 @@ use Rattle.line.specs.Layout.{Wire}
 use Rattle.line.specs.Pieces.{Piece, Bytes, joined}
 use Rattle.line.specs.Events.{silence, saidBy}
 use Rattle.line.specs.Runs.{says}
-use Rattle.framing.specs.Encode.{wireOf, encoded}
+use Rattle.line.specs.Encode.{wireOf, encoded}
 use Rattle.line.specs.machine.Room.{dataRoom}
 use Rattle.line.specs.machine.Frames.{padded, frameOf, heardOf}
 use Rattle.framing.specs.Feed.{fresh}

@@ -17,7 +17,8 @@ ghost use Rattle.octets.specs.Check.{check};
 ghost use Rattle.octets.specs.Put.{put};
 ghost use Rattle.types.specs.Address.{addressLength, isLong};
 ghost use Rattle.line.specs.Layout.{preambles};
-ghost use Rattle.framing.specs.Encode.{head, encoded};
+ghost use Rattle.line.specs.Encode.{encoded};
+ghost use Rattle.framing.specs.Head.{head};
 
 fn length_of(address: Address) -> usize
     ensures { λ r. ⌜ r ≡ addressLength (isLong address) ⌝ }

@@ -31,7 +31,7 @@ fn clear(block: &mut [u8])
 }
 
 // Makes a block hold a new decoder, whatever it held.
-pub(crate) fn clear_block(block: &mut [u8]) -> u32
+pub fn clear_block(block: &mut [u8]) -> u32
     ensures { λ r. ⌜ clears r (now (block .exit)) ≡ clearedBlock (now (block .entry)) ⌝ }
 {
     if block.len() == BLOCK_SIZE {
@@ -63,7 +63,7 @@ fn settle(moved: Moved, block: &mut [u8], room: &mut [u8]) -> u32
 
 // One byte in. Returns 0 for silence, the length of the record at the front of the room, or a refusal
 // of the call itself, after which the byte is not taken.
-pub(crate) fn feed_block(block: &mut [u8], room: &mut [u8], byte: u8) -> u32
+pub fn feed_block(block: &mut [u8], room: &mut [u8], byte: u8) -> u32
     ensures { λ r. ⌜ tells r (now (block .exit)) (now (room .exit)) ≡ fedBlock (now (block .entry)) (now (room .entry)) byte ⌝ }
 {
     if block.len() != BLOCK_SIZE {

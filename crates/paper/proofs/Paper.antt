@@ -18,7 +18,7 @@ use Rattle.line.specs.Pieces.{Bytes}
 use Rattle.line.specs.Events.{silence}
 use Rattle.line.specs.Runs.{says, ends}
 use Rattle.line.proofs.Scan.{Scan, hunt, scanWithin, scan, told}
-use Rattle.framing.specs.Encode.{encoded}
+use Rattle.line.specs.Encode.{encoded}
 use Rattle.line.specs.machine.Frames.{heardOf}
 use Rattle.line.proofs.machine.Zeros.{and-first, and-second}
 use Rattle.line.proofs.machine.Image.{real}

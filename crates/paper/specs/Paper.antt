@@ -14,7 +14,7 @@ use Rattle.types.specs.declared.address.Address.the-variants.{Short, Long}
 use Rattle.line.specs.Layout.{preambles}
 use Rattle.line.specs.Events.{silence, refusal}
 use Rattle.line.specs.Runs as runs
-use Rattle.framing.specs.Encode.{encoded}
+use Rattle.line.specs.Encode.{encoded}
 use Rattle.line.specs.machine.Frames.{padded, heardOf}
 use Rattle.framing.specs.Feed.{fresh}
 use Rattle.framing.specs.Demand.{hears}

@@ -11,8 +11,8 @@ use crate::text::put;
 use crate::text::put_buffer;
 use crate::text::put_marked;
 use crate::writers::fill;
-use host::hart_clear;
-use host::hart_feed;
+use hart::hart_clear;
+use hart::hart_feed;
 use octets::copy_into;
 
 // What a call told, and the block after it.

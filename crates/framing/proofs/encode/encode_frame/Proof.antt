@@ -13,8 +13,10 @@ use Rattle.types.specs.Delimiter.{delimiter}
 use Rattle.types.specs.Address.{addressLength, isLong, addressBytes}
 use Rattle.types.proofs.Addresses.{address-length-le}
 use Rattle.line.specs.Layout.{preambles, body, checkOf}
-use Rattle.framing.specs.Encode.{wireOf, layout, head, total}
-use Rattle.framing.proofs.Layouts.{length-head, head-body, length-layout, encoded-long, encoded-small, encoded-fits}
+use Rattle.line.specs.Encode.{wireOf, layout, total}
+use Rattle.line.proofs.Encoded.{length-layout, encoded-long, encoded-small, encoded-fits}
+use Rattle.framing.specs.Head.{head}
+use Rattle.framing.proofs.Heads.{length-head, head-body}
 use borrow.Author.Needs.{needs}
 use Rattle.framing.proofs.encode.encode_frame.Statement.{statement}
 use Rattle.framing.proofs.encode.encode_frame.Tie as tie

@@ -1,18 +1,17 @@
--- Document 01, 'Wire layout': a frame as it is written. Its bytes are those of the piece that a reader finds (the crate line), so that
--- reading and writing speak of one layout.
+-- Document 01, 'Wire layout': a frame as it is written. Its bytes are those of the piece that a reader finds, so that reading and
+-- writing speak of one layout.
 use Prim.Native.Nat.{ℕ, _+_, _-_, _≤_}
 use mathlib.Core.Path.{_≡_}
 use mathlib.Core.Bool.{Bool, cond}
-use mathlib.Core.List.{List, [], _∷_, _++_}
+use mathlib.Core.List.{List, []}
 use lib.ListN.{length, take, drop}
 use lib.Dec.{ltb}
 use Rattle.refusal.specs.Outcome.{Outcome, wrote, refuses}
 use Rattle.types.specs.declared.delimiter.FrameType.{FrameType}
 use Rattle.types.specs.declared.address.Address.{Address}
-use Rattle.types.specs.Delimiter.{delimiter}
 use Rattle.types.specs.Address.{addressLength, isLong, addressBytes}
-use Rattle.line.specs.Layout.{Wire, preambles}
+use Rattle.line.specs.Layout.{Wire}
 use Rattle.line.specs.Pieces.{frame, bytesOf}
 
 -- what a caller hands over, as it will stand on the line
 abbrev pub wireOf : FrameType → Address → ℕ → List ℕ → Wire
@@ -27,10 +26,6 @@ wireOf t a c ds = record {
 -- behind N preamble bytes, however few
 abbrev pub layout : ℕ → Wire → List ℕ
 layout n w = bytesOf (frame n w)
-
--- the bytes in front of the data: preamble, delimiter, address, command, and the count of the data
-abbrev pub head : FrameType → Address → ℕ → ℕ → ℕ → List ℕ
-head t a c count n = preambles n ++ (delimiter t (isLong a) ∷ (addressBytes a ++ (c ∷ count ∷ [])))
 
 -- how many bytes that is, with n preamble bytes and k of data
 abbrev pub total : ℕ → Bool → ℕ → ℕ
