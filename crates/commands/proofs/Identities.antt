@@ -16,7 +16,7 @@ module _ (bs : List ℕ) where
   unfolding identity
   identity-short h = rw (lt-ltb (length bs) 12 h)
 
-  identity-whole : 12 ≤ length bs → identity bs ≡ identified (identityAt bs)
+  pub identity-whole : 12 ≤ length bs → identity bs ≡ identified (identityAt bs)
   unfolding identity
   identity-whole h = rw (le-ltb (length bs) 12 h)
 
@@ -35,12 +35,14 @@ identityWith bs type signalling number = record {
   «device_id» = number;
 }
 
-pub identity-made : (bs : List ℕ) {type signalling number : ℕ} → 12 ≤ length bs → type ≡ fromDigits 256 (getD bs 1 0 ∷ getD bs 2 0 ∷ []) → signalling ≡ getD bs 7 0 % 8
-    → number ≡ fromDigits 256 (getD bs 9 0 ∷ getD bs 10 0 ∷ getD bs 11 0 ∷ []) → identified (identityWith bs type signalling number) ≡ identity bs
-identity-made bs {type} {signalling} {number} h t g n =
-    ap (λ (x : ℕ). identified (identityWith bs x signalling number)) t
-    ∙ ap₂ (λ (x y : ℕ). identified (identityWith bs (fromDigits 256 (getD bs 1 0 ∷ getD bs 2 0 ∷ [])) x y)) g n
-    ∙ sym (identity-whole bs h)
+module _ (bs : List ℕ) {type signalling number : ℕ} (t : type ≡ fromDigits 256 (getD bs 1 0 ∷ getD bs 2 0 ∷ [])) (g : signalling ≡ getD bs 7 0 % 8)
+    (n : number ≡ fromDigits 256 (getD bs 9 0 ∷ getD bs 10 0 ∷ getD bs 11 0 ∷ [])) where
+  pub identity-fields : identityWith bs type signalling number ≡ identityAt bs
+  identity-fields =
+      ap (λ (x : ℕ). identityWith bs x signalling number) t ∙ ap₂ (λ (x y : ℕ). identityWith bs (fromDigits 256 (getD bs 1 0 ∷ getD bs 2 0 ∷ [])) x y) g n
+
+  pub identity-made : 12 ≤ length bs → identified (identityWith bs type signalling number) ≡ identity bs
+  identity-made h = ap identified identity-fields ∙ sym (identity-whole bs h)
 
 -- twelve bytes or more, one by one
 by-twelve : (P : List ℕ → Type 0) → ((b0 b1 b2 b3 b4 b5 b6 b7 b8 b9 b10 b11 : ℕ) (rest : List ℕ) → P (b0 ∷ b1 ∷ b2 ∷ b3 ∷ b4 ∷ b5 ∷ b6 ∷ b7 ∷ b8 ∷ b9 ∷ b10 ∷ b11 ∷ rest)) → (bs : List ℕ) → 12 ≤ length bs → P bs

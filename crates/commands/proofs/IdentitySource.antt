@@ -77,4 +77,4 @@ identity-is-source bs b = by (ltb (length bs) 12) refl
         let number : fromDigits 256 (getD part 0 0 ∷ getD part 1 0 ∷ getD part 2 0 ∷ []) ≡ fromDigits 256 (getD bs 9 0 ∷ getD bs 10 0 ∷ getD bs 11 0 ∷ []) = rw (same 0 (lit< tt), same 1 (lit< tt), same 2 (lit< tt)) in
         rw (e, at 7 (lit< tt), at 0 (lit< tt), at 1 (lit< tt), at 2 (lit< tt), at 3 (lit< tt), at 4 (lit< tt), at 5 (lit< tt), at 6 (lit< tt), at 8 (lit< tt), le-leb 12 (length bs) h)
         (u24-run part (λ number. gives (identified (identityWith bs (bitOr (shiftLeft 16 (getD bs 1 0) 8) (getD bs 2 0)) (bitAnd (getD bs 7 0) 0x07) number))) (λ i k. rw (same i k) (byte (9 + i))) (omega arith)
-        ∙ ap gives (identity-made bs h (u16-same (getD bs 1 0) (getD bs 2 0) (byte 1) (byte 2)) (and-mask (getD bs 7 0) 3) number))
+        ∙ ap gives (identity-made bs (u16-same (getD bs 1 0) (getD bs 2 0) (byte 1) (byte 2)) (and-mask (getD bs 7 0) 3) number h))

@@ -18,7 +18,7 @@ use Rattle.packed_string.specs.declared.text_group.Mode.the-variants.{Crate, St
 use Rattle.packed_string.specs.Groups.{groups}
 use Rattle.packed_string.proofs.Groups.{length-packed, length-unpacked}
 use Rattle.packed_string.specs.Plain.{badPlace}
-use Rattle.packed_string.proofs.BadPlace.{bad-append-first, bad-append-second, place-plain}
+use Rattle.packed_string.proofs.BadPlace.{place-within, bad-append-first, bad-append-second, place-plain}
 use Rattle.packed_string.specs.Standard.{standardPacked}
 use Rattle.packed_string.proofs.StandardCalls.{standard-packs-bad, standard-packs, standard-unpacks}
 use Rattle.packed_string.proofs.Calls.{crate-packs, crate-unpacks}
@@ -35,6 +35,11 @@ pub crate-good : (text : List ℕ) → length text ≤ badIn Crate text
 unfolding badIn
 crate-good text = omega arith
 
+pub bad-in-within : (mode : Mode) (text : List ℕ) → badIn mode text ≤ length text
+unfolding badIn
+bad-in-within Crate text = omega arith
+bad-in-within Standard text = place-within text
+
 -- of two texts, one behind the other: the first's bad place, or past it the second's
 pub bad-in-first : (mode : Mode) (s t : List ℕ) → badIn mode s < length s → badIn mode (s ++ t) ≡ badIn mode s
 unfolding badIn
@@ -45,6 +50,18 @@ pub bad-in-second : (mode : Mode) (s t : List ℕ) → length s ≤ badIn mode s
 unfolding badIn
 bad-in-second Crate s t h = length-append s t
 bad-in-second Standard s t h = bad-append-second s t (place-plain s h)
+
+-- where both together have no bad character, neither has one
+module _ (mode : Mode) (s t : List ℕ) (good : length s + length t ≤ badIn mode (s ++ t)) where
+  pub good-in-first : length s ≤ badIn mode s
+  good-in-first = by (ltb (badIn mode s) (length s)) refl
+    where
+      by : (bad : Bool) → ltb (badIn mode s) (length s) ≡ bad → length s ≤ badIn mode s
+      by true e = let h = ltb-true (badIn mode s) (length s) e in absurd (omega (arith, bad-in-first mode s t h))
+      by false e = ltb-false (badIn mode s) (length s) e
+
+  pub good-in-second : length t ≤ badIn mode t
+  good-in-second = omega (arith, bad-in-second mode s t good-in-first)
 
 -- what 7 and the writing come to, once there is room
 abbrev pub withRoom : Mode → List ℕ → List ℕ → List ℕ → Outcome

@@ -3,7 +3,9 @@ use octets::decode_u16_be;
 use octets::decode_u24_be;
 use refusal::Refusal;
 ghost use mathlib.Core.Path.{_≡_};
-ghost use Rattle.commands.specs.Identity.{identifiedOf, identity};
+ghost use Prim.Native.Nat.{_≤_};
+ghost use lib.ListN.{length};
+ghost use Rattle.commands.specs.Identity.{identityAt, identifiedOf, identity};
 
 pub struct DeviceIdentity {
     pub expansion_code: u8,
@@ -23,6 +25,25 @@ pub enum IdentityRead {
     Refused(Refusal),
 }
 
+fn identity_at(data: &[u8]) -> DeviceIdentity
+    requires { ⌜ 12 ≤ length (now «data») ⌝ }
+    ensures { λ r. ⌜ r ≡ identityAt (now («data» .entry)) ⌝ }
+{
+    let hw_raw = data[7];
+    DeviceIdentity {
+        expansion_code: data[0],
+        expanded_device_type: decode_u16_be(data[1], data[2]),
+        min_preamble_count: data[3],
+        hart_revision: data[4],
+        device_revision: data[5],
+        software_revision: data[6],
+        hardware_revision: hw_raw / 8,
+        physical_signaling: hw_raw % 8,
+        flags: data[8],
+        device_id: decode_u24_be(data[9], data[10], data[11]),
+    }
+}
+
 impl DeviceIdentity {
     // Bytes past the twelfth are not looked at.
     pub fn decode(data: &[u8]) -> IdentityRead
@@ -31,18 +52,6 @@ impl DeviceIdentity {
         if data.len() < 12 {
             return IdentityRead::Refused(Refusal::BufferTooShort);
         }
-        let hw_raw = data[7];
-        IdentityRead::Identity(DeviceIdentity {
-            expansion_code: data[0],
-            expanded_device_type: decode_u16_be(data[1], data[2]),
-            min_preamble_count: data[3],
-            hart_revision: data[4],
-            device_revision: data[5],
-            software_revision: data[6],
-            hardware_revision: hw_raw / 8,
-            physical_signaling: hw_raw % 8,
-            flags: data[8],
-            device_id: decode_u24_be(data[9], data[10], data[11]),
-        })
+        IdentityRead::Identity(identity_at(data))
     }
 }

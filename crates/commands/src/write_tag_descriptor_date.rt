@@ -12,9 +12,14 @@ use refusal::Written;
 use types::FrameType;
 use types::consts::commands::WRITE_TAG_DESCRIPTOR_DATE;
 ghost use mathlib.Core.Path.{_≡_};
+ghost use mathlib.Core.List.{_++_};
+ghost use Prim.Native.Nat.{_≤_};
+ghost use lib.ListN.{length};
 ghost use Rattle.refusal.specs.Outcome.{ends, replyOf};
+ghost use Rattle.octets.specs.Put.{put};
 ghost use Rattle.framing.specs.Payload.{judgementOf, typed, passedOn};
-ghost use Rattle.commands.specs.TagDescriptorDate.{requested, fieldsOf, nothingRead, refusedRead, fieldsRead};
+ghost use Rattle.commands.specs.Modes.{badIn};
+ghost use Rattle.commands.specs.TagDescriptorDate.{layout, requested, fieldsOf, nothingRead, refusedRead, fieldsRead};
 
 // Beside a refusal every byte is zero.
 pub struct WriteTagDescriptorDateResponse {
@@ -24,6 +29,36 @@ pub struct WriteTagDescriptorDateResponse {
     pub day: u8,
     pub month: u8,
     pub year: u8,
+}
+
+// The place of the first character without a code, on through the tag and the descriptor, or 24.
+fn bad_place_in_texts(mode: Mode, tag: [u8; 8], descriptor: [u8; 16]) -> usize
+    ensures { λ r. ⌜ r ≡ badIn mode (tag ++ descriptor) ⌝ }
+{
+    let place = bad_place_in(mode, &tag);
+    if place < 8 {
+        return place;
+    }
+    8 + bad_place_in(mode, &descriptor)
+}
+
+fn write_layout(
+    mode: Mode,
+    tag: [u8; 8],
+    descriptor: [u8; 16],
+    day: u8,
+    month: u8,
+    year: u8,
+    buf: &mut [u8],
+)
+    requires { ⌜ (21 ≤ length (now buf)) × (24 ≤ badIn mode (tag ++ descriptor)) ⌝ }
+    ensures { λ _. ⌜ now (buf .exit) ≡ put (now (buf .entry)) 0 (layout mode tag descriptor day month year) ⌝ }
+{
+    encode_in(mode, &tag, &mut buf[0..6]);
+    encode_in(mode, &descriptor, &mut buf[6..18]);
+    buf[18] = day;
+    buf[19] = month;
+    buf[20] = year;
 }
 
 // Every character is looked at before the first byte is written.
@@ -41,19 +76,11 @@ pub fn encode_data(
     if buf.len() < 21 {
         return Written::Refused(Refusal::BufferTooSmall);
     }
-    let place = bad_place_in(mode, &tag);
-    if place < 8 {
+    let place = bad_place_in_texts(mode, tag, descriptor);
+    if place < 24 {
         return Written::Refused(Refusal::BadCharacter(place));
     }
-    let beyond = bad_place_in(mode, &descriptor);
-    if beyond < 16 {
-        return Written::Refused(Refusal::BadCharacter(8 + beyond));
-    }
-    encode_in(mode, &tag, &mut buf[0..6]);
-    encode_in(mode, &descriptor, &mut buf[6..18]);
-    buf[18] = day;
-    buf[19] = month;
-    buf[20] = year;
+    write_layout(mode, tag, descriptor, day, month, year, buf);
     Written::Count(21)
 }
 

@@ -1,17 +1,16 @@
 -- Text written into a buffer, a word with its mark, and text behind text.
 use Prim.Native.Nat.{ℕ, _+_, _≤_, _<_}
 use native.Mathlib.Omega.{arith}
-use mathlib.Core.Path.{_≡_, refl, sym, ap, subst, _∙_}
+use mathlib.Core.Path.{_≡_, sym, ap, subst, _∙_}
 use mathlib.Core.Bool.{Bool, true, false, cond}
 use mathlib.Core.List.{List, [], _∷_, _++_}
 use lib.Dec.{ltb}
 use lib.ListN.{length, drop, set, length-append}
-use borrow.Author.Tests.{le-leb, lt-leb}
 use Rattle.refusal.specs.Outcome.{done, ends, wrote, refuses}
 use Rattle.octets.specs.Put.{put}
 use Rattle.octets.proofs.Put.{put-nil, length-put, put-put, put-snoc}
 use Rattle.dump_lines.specs.Text.{endLine, lineMax}
-use Rattle.dump_lines.specs.Writing.{behindLine, withLine, endWritten, Writes}
+use Rattle.dump_lines.specs.Writing.{endWritten, Writes}
 
 -- the mark is stored right behind the word
 pub marked : (l : List ℕ) (at : ℕ) (word : List ℕ) (mark i : ℕ) {b : List ℕ} → b ≡ put l at word → i ≡ at + length word → at + length word < length l → Writes l at (word ++ (mark ∷ [])) (i + 1) (set b i mark)
@@ -41,14 +40,6 @@ joined {before} {middle} {after} {first} {second} {at} {between} {behind} w v =
 -- the same text in other words
 pub reworded : {before after text same : List ℕ} {at behind : ℕ} → text ≡ same → Writes before at text behind after → Writes before at same behind after
 reworded {before} {after} {text} {same} {at} {behind} e w = subst (λ (t : List ℕ). Writes before at t behind after) e w
-
--- a line is written where the longest would fit, and only there
-module _ (text buffer : List ℕ) (at : ℕ) where
-  pub lined : {behind : ℕ} {after : List ℕ} → at + lineMax ≤ length buffer → Writes buffer at text behind after → (behind ≡ behindLine text buffer at) × (after ≡ withLine text buffer at)
-  lined h w = rw (le-leb (at + lineMax) (length buffer) h) (w .place, w .content)
-
-  pub unlined : length buffer < at + lineMax → (at ≡ behindLine text buffer at) × (buffer ≡ withLine text buffer at)
-  unlined h = rw (lt-leb (at + lineMax) (length buffer) h) (refl, refl)
 
 -- a last line that was written lies within the buffer, as its length, which no call changes, shows
 pub end-within : (b f r : ℕ) (before : List ℕ) {after : List ℕ} {n : ℕ} → ends (done (n ∷ [])) after ≡ endWritten b f r before → length after ≡ length before → n ≤ length before

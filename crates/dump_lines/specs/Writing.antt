@@ -1,24 +1,13 @@
 -- The lines of the dump, written into a lent buffer.
 use Prim.Native.Nat.{ℕ, _+_, _≤_}
 use mathlib.Core.Path.{_≡_}
-use mathlib.Core.Bool.{Bool, cond}
+use mathlib.Core.Bool.{cond}
 use mathlib.Core.List.{List, []}
-use lib.Dec.{ltb, leb}
+use lib.Dec.{ltb}
 use lib.ListN.{length}
 use Rattle.refusal.specs.Outcome.{Outcome, wrote, refuses}
 use Rattle.octets.specs.Put.{put}
 use Rattle.dump_lines.specs.Text.{lineMax, endLine}
-
--- a line is written from a place on if the longest line would fit there: it stands in the buffer, and the place behind it is given back.
--- Else the buffer stays as it was, and so does the place
-abbrev pub hasRoom : List ℕ → ℕ → Bool
-hasRoom buffer at = leb (at + lineMax) (length buffer)
-
-abbrev pub behindLine : List ℕ → List ℕ → ℕ → ℕ
-behindLine text buffer at = cond (hasRoom buffer at) (at + length text) at
-
-abbrev pub withLine : List ℕ → List ℕ → ℕ → List ℕ
-withLine text buffer at = cond (hasRoom buffer at) (put buffer at text) buffer
 
 -- the last line at the front, or 2 where the longest line would not fit
 unfoldable pub endWritten : ℕ → ℕ → ℕ → List ℕ → Outcome

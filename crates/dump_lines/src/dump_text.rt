@@ -25,7 +25,7 @@ ghost use Rattle.line.specs.machine.Feed.{eventOf};
 ghost use Rattle.octets.specs.Figures.{decimal as decimalText, hex as hexText};
 ghost use Rattle.dump_lines.specs.Text.{lineMax, addressText, dataText, start, frameLine, refusalLine, lineOf};
 ghost use Rattle.dump_lines.specs.Text.{letter as typeLetter};
-ghost use Rattle.dump_lines.specs.Writing.{Writes, behindLine, withLine, endWritten};
+ghost use Rattle.dump_lines.specs.Writing.{Writes, endWritten};
 
 // No line is longer: a frame with a place of 20 digits, a long address, a command of 3 digits and 255
 // bytes of data.
@@ -168,9 +168,7 @@ fn write_refusal(place: u64, refusal: Refusal, out: &mut [u8], at: usize) -> usi
     at
 }
 
-// The line of what a byte ended, from place `at` on, if from there on the longest line would fit; gives
-// back the place behind the line. Where there is less room, or no line, nothing is written, and `at`
-// comes back.
+// The line of what a byte ended, if that has one.
 pub(crate) fn write_line(
     place: u64,
     ended: Ended,
@@ -178,15 +176,9 @@ pub(crate) fn write_line(
     out: &mut [u8],
     at: usize,
 ) -> usize
-    ensures { λ r. ⌜ r ≡ behindLine (lineOf place (eventOf ended (now (bytes .entry)))) (now (out .entry)) at ⌝ }
-    ensures { λ _. ⌜ now (out .exit) ≡ withLine (lineOf place (eventOf ended (now (bytes .entry)))) (now (out .entry)) at ⌝ }
+    requires { ⌜ at + lineMax ≤ length (now out) ⌝ }
+    ensures { λ r. ⌜ Writes (now (out .entry)) at (lineOf place (eventOf ended (now (bytes .entry)))) r (now (out .exit)) ⌝ }
 {
-    if out.len() < LINE_MAX {
-        return at;
-    }
-    if out.len() - LINE_MAX < at {
-        return at;
-    }
     match ended {
         Ended::Nothing => at,
         Ended::Frame {

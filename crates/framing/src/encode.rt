@@ -1,6 +1,7 @@
 // From frames to bytes (encode.rs): head, data, check, each written at its place in the lent buffer.
 use octets::checksum_from;
 use octets::copy_into;
+use octets::fill;
 use refusal::Refusal;
 use refusal::Written;
 use types::Address;
@@ -17,7 +18,7 @@ ghost use Rattle.octets.specs.Check.{check};
 ghost use Rattle.octets.specs.Put.{put};
 ghost use Rattle.types.specs.Address.{addressLength, isLong};
 ghost use Rattle.line.specs.Layout.{preambles};
-ghost use Rattle.line.specs.Encode.{encoded};
+ghost use Rattle.line.specs.Encode.{wireOf, layout, total, encoded};
 ghost use Rattle.framing.specs.Head.{head};
 
 fn length_of(address: Address) -> usize
@@ -30,11 +31,7 @@ fn write_preambles(buf: &mut [u8], n: usize)
     requires { ⌜ n ≤ length (now buf) ⌝ }
     ensures { λ _. ⌜ now (buf .exit) ≡ put (now (buf .entry)) 0 (preambles n) ⌝ }
 {
-    let mut pos = 0;
-    while pos < n {
-        buf[pos] = PREAMBLE_BYTE;
-        pos += 1;
-    }
+    fill(&mut buf[0..n], PREAMBLE_BYTE);
 }
 
 // Everything in front of the data; returns the place where the data begin. It takes their count and
@@ -71,6 +68,33 @@ fn check_of_head(head: &[u8]) -> u8
     checksum_from(0, &head[..next]) ^ head[next] ^ head[next + 1]
 }
 
+// Head, data and check to the front of the buffer.
+fn write_frame(
+    frame_type: FrameType,
+    address: Address,
+    command: u8,
+    data: &[u8],
+    preamble_count: u8,
+    buf: &mut [u8],
+)
+    requires { ⌜ (length (now «data») ≤ 255) × (total «preamble_count» (isLong address) (length (now «data»)) ≤ length (now buf)) ⌝ }
+    ensures { λ _. ⌜ now (buf .exit) ≡ put (now (buf .entry)) 0 (layout «preamble_count» (wireOf «frame_type» address command (now («data» .entry)))) ⌝ }
+{
+    let from = preamble_count as usize;
+    let at = write_head(
+        frame_type,
+        address,
+        command,
+        data.len() as u8,
+        preamble_count,
+        buf,
+    );
+    let checksum = checksum_from(check_of_head(&buf[from..at]), data);
+    copy_into(data, buf, at);
+    let to = at + data.len();
+    buf[to] = checksum;
+}
+
 // The whole frame to the front of the buffer, and how many bytes that is.
 pub fn encode_frame(
     frame_type: FrameType,
@@ -85,22 +109,10 @@ pub fn encode_frame(
     if data.len() > MAX_DATA_LENGTH {
         return Written::Refused(Refusal::DataTooLong);
     }
-    let from = preamble_count as usize;
-    let total = from + 4 + length_of(address) + data.len();
+    let total = preamble_count as usize + 4 + length_of(address) + data.len();
     if buf.len() < total {
         return Written::Refused(Refusal::BufferTooSmall);
     }
-    let at = write_head(
-        frame_type,
-        address,
-        command,
-        data.len() as u8,
-        preamble_count,
-        buf,
-    );
-    let checksum = checksum_from(check_of_head(&buf[from..at]), data);
-    copy_into(data, buf, at);
-    let to = at + data.len();
-    buf[to] = checksum;
+    write_frame(frame_type, address, command, data, preamble_count, buf);
     Written::Count(total)
 }

@@ -22,7 +22,7 @@ use Rattle.line.specs.declared.moved.Moved.{Moved}
 use Rattle.line.specs.declared.moved.Ended.{Ended}
 use Rattle.line.proofs.machine.Settled.{settled-event}
 use Rattle.host.specs.Header.{headerOf}
-use Rattle.host.specs.Record.{recordOf, recordRoom, hasRoom, recordLength, withRecord}
+use Rattle.host.specs.Record.{recordOf, recordRoom}
 use Rattle.host.specs.Block.{blockSize, blockOf, headerIn, stateIn, heldIn, accepted, tells, refusing, recorded, fedBlock, clears, clearedBlock}
 
 module _ (block lent : List ℕ) (b : ℕ) where
@@ -52,15 +52,12 @@ pub put-header : (n : ℕ) (block : List ℕ) → put block 0 (digits 256 6 n) �
 put-header n block = put-front block (digits 256 6 n) ∙ ap (λ (k : ℕ). digits 256 6 n ++ drop k block) (length-digits 256 6 n)
 
 -- what was written of a byte, where the block is then as it must be
-pub record-told : (x : Ended) (s : State) (block lent : List ℕ) {n : ℕ} {after room part : List ℕ} → length block ≡ blockSize → recordRoom ≤ length lent → part ≡ drop 6 block
-    → n ≡ recordLength (eventOf x part) part lent → room ≡ withRecord (eventOf x part) part lent → after ≡ blockOf ((settledBy x s (drop 6 block)) .0)
+pub record-told : (x : Ended) (s : State) (block lent : List ℕ) {n : ℕ} {after room part : List ℕ} → part ≡ drop 6 block
+    → n ≡ length (recordOf (eventOf x part)) → room ≡ put lent 0 (recordOf (eventOf x part)) → after ≡ blockOf ((settledBy x s (drop 6 block)) .0)
     → tells n after room ≡ recorded (settledBy x s (drop 6 block)) lent
-record-told x s block lent {n} {after} {room} {part} size h ep en er ea =
+record-told x s block lent {part = part} ep en er ea =
     let e : eventOf x part ≡ (settledBy x s (drop 6 block)) .1 = ap (eventOf x) ep ∙ sym (settled-event x s (drop 6 block)) in
-    let whole : hasRoom part lent ≡ true = rw (ep, eq-eqb (length (drop 6 block)) 260 (length-drop 6 block ∙ omega arith), le-leb recordRoom (length lent) h) in
-    let count : n ≡ length (recordOf ((settledBy x s (drop 6 block)) .1)) = en ∙ rw (whole, e) in
-    let put : room ≡ put lent 0 (recordOf ((settledBy x s (drop 6 block)) .1)) = er ∙ rw (whole, e) in
-    rw (count, put, ea)
+    rw (en, er, ea, e)
 
 module _ (block : List ℕ) where
   pub clear-whole : length block ≡ blockSize → clearedBlock block ≡ clears 0 (replicate blockSize 0)

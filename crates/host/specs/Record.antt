@@ -1,10 +1,7 @@
 -- Document 01, 'For the C host': the record that the host is given where a piece is over.
 use Prim.Native.Nat.{ℕ, _+_}
-use mathlib.Core.Bool.{Bool, cond, _&&_}
 use mathlib.Core.List.{List, [], _∷_, _++_}
-use lib.Dec.{eqb, leb}
 use lib.ListN.{length}
-use Rattle.octets.specs.Put.{put}
 use Rattle.refusal.specs.declared.Refusal.{Refusal}
 use Rattle.refusal.specs.declared.Refusal.the-variants.{
   DataTooLong,
@@ -22,7 +19,7 @@ use Rattle.types.specs.Delimiter.{typeNumber}
 use Rattle.types.specs.Address.{readAddress, addressBytes}
 use Rattle.line.specs.Layout.{Wire}
 use Rattle.line.specs.Events.{Event, silence, found, refused}
-use Rattle.line.specs.machine.Room.{addressRoom, dataRoom, room}
+use Rattle.line.specs.machine.Room.{addressRoom, dataRoom}
 use Rattle.host.specs.Bits.{in-bits, packed}
 use Rattle.host.specs.Header.{longBit}
 
@@ -57,14 +54,3 @@ recordOf (refused r) = refusalRecord r
 -- room for the longest: first byte, address, command, count and data
 abbrev pub recordRoom : ℕ
 recordRoom = 1 + addressRoom + 2 + dataRoom
-
--- a record is written where the bytes beside a state are whole and the room has place for the longest; else nothing is, and its length
--- is given as 0
-abbrev pub hasRoom : List ℕ → List ℕ → Bool
-hasRoom bytes lent = eqb (length bytes) room && leb recordRoom (length lent)
-
-abbrev pub recordLength : Event → List ℕ → List ℕ → ℕ
-recordLength e bytes lent = cond (hasRoom bytes lent) (length (recordOf e)) 0
-
-abbrev pub withRecord : Event → List ℕ → List ℕ → List ℕ
-withRecord e bytes lent = cond (hasRoom bytes lent) (put lent 0 (recordOf e)) lent

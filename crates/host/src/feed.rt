@@ -8,9 +8,10 @@ use crate::records::write_record;
 use framing::step;
 use line::Ended;
 use line::Moved;
+use octets::fill;
 ghost use mathlib.Core.Path.{_≡_};
 ghost use Prim.Native.Nat.{_≤_};
-ghost use lib.ListN.{length, drop, replicate};
+ghost use lib.ListN.{length, drop};
 ghost use Rattle.line.specs.machine.Feed.{settled};
 ghost use Rattle.host.specs.Record.{recordRoom};
 ghost use Rattle.host.specs.Block.{headerSize, blockSize, tells, recorded, fedBlock, clears, clearedBlock};
@@ -20,22 +21,12 @@ const BAD_STATE: u32 = 1008;
 
 const NO_ROOM: u32 = 1002;
 
-fn clear(block: &mut [u8])
-    ensures { λ _. ⌜ now (block .exit) ≡ replicate (length (now (block .entry))) 0 ⌝ }
-{
-    let mut i = 0;
-    while i < block.len() {
-        block[i] = 0;
-        i += 1;
-    }
-}
-
 // Makes a block hold a new decoder, whatever it held.
 pub fn clear_block(block: &mut [u8]) -> u32
     ensures { λ r. ⌜ clears r (now (block .exit)) ≡ clearedBlock (now (block .entry)) ⌝ }
 {
     if block.len() == BLOCK_SIZE {
-        clear(block);
+        fill(block, 0);
         return 0;
     }
     BAD_STATE
@@ -55,8 +46,8 @@ fn settle(moved: Moved, block: &mut [u8], room: &mut [u8]) -> u32
             head: _,
             command: _,
             length: _,
-        } => clear(block),
-        Ended::Refused(_) => clear(block),
+        } => fill(block, 0),
+        Ended::Refused(_) => fill(block, 0),
     }
     count
 }

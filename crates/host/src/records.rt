@@ -3,7 +3,6 @@ use crate::block_header::long_bit;
 use line::ADDRESS_ROOM;
 use line::Ended;
 use line::Head;
-use line::ROOM;
 use octets::copy_into;
 use refusal::Refusal;
 use types::Address;
@@ -16,7 +15,7 @@ ghost use Rattle.types.specs.Address.{addressLength, isLong, addressBytes};
 ghost use Rattle.line.specs.machine.Room.{addressRoom, dataRoom};
 ghost use Rattle.line.specs.machine.Frames.{wireAt};
 ghost use Rattle.line.specs.machine.Feed.{eventOf};
-ghost use Rattle.host.specs.Record.{recordRoom, frameRecord, refusalRecord, recordLength, withRecord};
+ghost use Rattle.host.specs.Record.{recordRoom, frameRecord, refusalRecord, recordOf};
 
 pub(crate) const RECORD_ROOM: usize = 263;
 
@@ -75,18 +74,11 @@ fn write_refusal(refusal: Refusal, room: &mut [u8]) -> u32
     }
 }
 
-// The record of what a byte ended, at the front of the room, and its length. Without the 260 bytes that
-// stand beside a state, or without room for the longest record, nothing is written and 0 comes back.
+// The record of what a byte ended, at the front of the room, and its length: silence has none.
 pub(crate) fn write_record(ended: Ended, bytes: &[u8], room: &mut [u8]) -> u32
-    ensures { λ r. ⌜ r ≡ recordLength (eventOf ended (now (bytes .entry))) (now (bytes .entry)) (now (room .entry)) ⌝ }
-    ensures { λ _. ⌜ now (room .exit) ≡ withRecord (eventOf ended (now (bytes .entry))) (now (bytes .entry)) (now (room .entry)) ⌝ }
+    requires { ⌜ (length (now bytes) ≡ addressRoom + dataRoom) × (recordRoom ≤ length (now room)) ⌝ }
+    ensures { λ r. ⌜ (r ≡ length (recordOf (eventOf ended (now (bytes .entry))))) × (now (room .exit) ≡ put (now (room .entry)) 0 (recordOf (eventOf ended (now (bytes .entry))))) ⌝ }
 {
-    if bytes.len() != ROOM {
-        return 0;
-    }
-    if room.len() < RECORD_ROOM {
-        return 0;
-    }
     match ended {
         Ended::Nothing => 0,
         Ended::Frame {

@@ -1,5 +1,5 @@
-// Numbers, bits and the check of a frame, as bytes on the line carry them; the copying of bytes; and
-// numbers as text.
+// Numbers, bits and the check of a frame, as bytes on the line carry them; bytes copied and
+// filled in; and numbers as text.
 mod bits;
 mod checksum;
 mod copy;
@@ -9,6 +9,7 @@ mod numbers;
 pub use bits::has_bit;
 pub use checksum::checksum_from;
 pub use copy::copy_into;
+pub use copy::fill;
 pub use figures::DECIMAL_ROOM;
 pub use figures::Digits;
 pub use figures::decimal;

@@ -32,6 +32,10 @@ module _ (c : ℕ) (s : List ℕ) where
   pub bad-first : (Coded c → ⊥) → badPlace (c ∷ s) ≡ 0
   bad-first n = first-case c s (λ k e. absurd (n k)) (λ _ e. e)
 
+pub place-within : (s : List ℕ) → badPlace s ≤ length s
+place-within [] = omega (arith, bad-nil)
+place-within (c ∷ s) = first-case c s (λ _ e. omega (arith, place-within s)) (λ _ e. omega arith)
+
 -- it is the first: the character there has no code, and each one before it has
 pub place-outside : (s : List ℕ) → badPlace s < length s → Coded (getD s (badPlace s) 0) → ⊥
 place-outside [] h k = omega arith

@@ -24,6 +24,17 @@ module _ (mode : Mode) where
   pub length-texts : (tag descriptor : List ℕ) → length tag ≡ 8 → length descriptor ≡ 16 → length (packedText mode tag ++ packedText mode descriptor) ≡ 18
   length-texts tag descriptor t d = omega (arith, length-append (packedText mode tag) (packedText mode descriptor), length-tag tag t, length-descriptor descriptor d)
 
+-- both texts' characters, one behind the other
+module _ (tag descriptor : List ℕ) (t : length tag ≡ 8) (d : length descriptor ≡ 16) where
+  pub length-both : length (tag ++ descriptor) ≡ 24
+  length-both = omega (arith, length-append tag descriptor)
+
+  pub bad-in-tag : (mode : Mode) → badIn mode tag < 8 → badIn mode (tag ++ descriptor) ≡ badIn mode tag
+  bad-in-tag mode h = bad-in-first mode tag descriptor (omega arith)
+
+  pub bad-beyond : (mode : Mode) → 8 ≤ badIn mode tag → badIn mode (tag ++ descriptor) ≡ 8 + badIn mode descriptor
+  bad-beyond mode h = bad-in-second mode tag descriptor (omega arith) ∙ ap (λ (n : ℕ). n + badIn mode descriptor) t
+
 module _ (mode : Mode) (tag descriptor : List ℕ) (day month year : ℕ) where
   module _ (t : length tag ≡ 8) (d : length descriptor ≡ 16) where
     pub length-layout : length (layout mode tag descriptor day month year) ≡ 21
@@ -42,30 +53,13 @@ module _ (mode : Mode) (tag descriptor : List ℕ) (day month year : ℕ) where
         ∙ put-put l 0 (p ++ q) (day ∷ month ∷ year ∷ []) 18 (omega (arith, length-texts mode tag descriptor t d)) (omega (arith, length-texts mode tag descriptor t d))
 
     module _ (buffer : List ℕ) (room : 21 ≤ length buffer) where
-      both : length (tag ++ descriptor) ≡ 24
-      both = omega (arith, length-append tag descriptor)
-
-      pub requested-bad-tag : badIn mode tag < 8 → requested mode tag descriptor day month year buffer ≡ refuses 7 (badIn mode tag ∷ []) buffer
+      pub requested-bad : badIn mode (tag ++ descriptor) < 24 → requested mode tag descriptor day month year buffer ≡ refuses 7 (badIn mode (tag ++ descriptor) ∷ []) buffer
       unfolding requested
-      requested-bad-tag h =
-          let place : badIn mode (tag ++ descriptor) ≡ badIn mode tag = bad-in-first mode tag descriptor (omega arith) in
-          fields-bad mode 21 (tag ++ descriptor) (layout mode tag descriptor day month year) buffer room (omega (arith, both))
-          ∙ ap (λ (n : ℕ). refuses 7 (n ∷ []) buffer) place
+      requested-bad h = fields-bad mode 21 (tag ++ descriptor) (layout mode tag descriptor day month year) buffer room (omega (arith, length-both tag descriptor t d))
 
-      -- past a good tag the place is the descriptor's, 8 further on
-      module _ (good : 8 ≤ badIn mode tag) where
-        beyond : badIn mode (tag ++ descriptor) ≡ 8 + badIn mode descriptor
-        beyond = bad-in-second mode tag descriptor (omega arith) ∙ ap (λ (n : ℕ). n + badIn mode descriptor) t
-
-        pub requested-bad-descriptor : badIn mode descriptor < 16 → requested mode tag descriptor day month year buffer ≡ refuses 7 ((8 + badIn mode descriptor) ∷ []) buffer
-        unfolding requested
-        requested-bad-descriptor h =
-            fields-bad mode 21 (tag ++ descriptor) (layout mode tag descriptor day month year) buffer room (omega (arith, both, beyond))
-            ∙ ap (λ (n : ℕ). refuses 7 (n ∷ []) buffer) beyond
-
-        pub requested-fits : 16 ≤ badIn mode descriptor → requested mode tag descriptor day month year buffer ≡ wrote (layout mode tag descriptor day month year) buffer
-        unfolding requested
-        requested-fits h = fields-fit mode 21 (tag ++ descriptor) (layout mode tag descriptor day month year) buffer room (omega (arith, both, beyond))
+      pub requested-fits : 24 ≤ badIn mode (tag ++ descriptor) → requested mode tag descriptor day month year buffer ≡ wrote (layout mode tag descriptor day month year) buffer
+      unfolding requested
+      requested-fits h = fields-fit mode 21 (tag ++ descriptor) (layout mode tag descriptor day month year) buffer room (omega (arith, length-both tag descriptor t d))
 
   pub requested-small : (buffer : List ℕ) → length buffer < 21 → requested mode tag descriptor day month year buffer ≡ refuses 2 [] buffer
   unfolding requested

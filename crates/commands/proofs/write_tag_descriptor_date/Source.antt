@@ -4,7 +4,7 @@ use Prim.Native.Nat.{ℕ, zero, suc, _≤_}
 use native.Mathlib.Omega.{arith}
 use mathlib.Core.Path.{_≡_, refl, sym, ap, _∙_}
 use mathlib.Core.Bool.{Bool, true, false, cond}
-use mathlib.Core.List.{List, [], _∷_}
+use mathlib.Core.List.{List, [], _∷_, _++_}
 use lib.ListN.{length, set, take, drop, replicate, length-set, length-drop}
 use lib.Seq.{length-take-le}
 use lib.Dec.{ltb}
@@ -22,7 +22,7 @@ use Rattle.commands.proofs.Texts.{crate-good}
 use Rattle.commands.proofs.TextSource.{source-lent, source-filled}
 use Rattle.commands.specs.TagDescriptorDate.{Fields, reads, layout, requested, refusedRead, fieldsRead}
 use Rattle.commands.specs.TagDescriptorDateSource.{sourceRequested, sourceRead}
-use Rattle.commands.proofs.write_tag_descriptor_date.Layouts.{length-tag, length-descriptor, length-layout, fields-put, requested-small, requested-fits, read-short, read-whole}
+use Rattle.commands.proofs.write_tag_descriptor_date.Layouts.{length-tag, length-descriptor, length-both, length-layout, fields-put, requested-small, requested-fits, read-short, read-whole}
 
 pub encode-is-source : (tag descriptor : List ℕ) (day month year : ℕ) (buf : List ℕ) → length tag ≡ 8 → length descriptor ≡ 16
     → sourceRequested tag descriptor day month year buf ≡ comes (requested Crate tag descriptor day month year buf)
@@ -54,7 +54,7 @@ encode-is-source tag descriptor day month year buf t d = by (ltb (length buf) 21
         ∙ source-lent descriptor b₁ 6 18 stored (omega arith) (omega arith)
         ∙ rw (lt-ltb 18 (length b₂) (omega arith), lt-ltb 19 (length b₃) (omega arith), lt-ltb 20 (length b₄) (omega arith))
         (ap comes (put-wrote buf (layout Crate tag descriptor day month year) (fields-put Crate tag descriptor day month year t d buf room refl refl) (sym (length-layout Crate tag descriptor day month year t d))
-        ∙ sym (requested-fits Crate tag descriptor day month year t d buf room (omega (arith, crate-good tag)) (omega (arith, crate-good descriptor)))))
+        ∙ sym (requested-fits Crate tag descriptor day month year t d buf room (omega (arith, crate-good (tag ++ descriptor), length-both tag descriptor t d)))))
 
 below-take : (n : ℕ) (bs : List ℕ) → Below 256 bs → Below 256 (take n bs)
 below-take zero bs h = tt

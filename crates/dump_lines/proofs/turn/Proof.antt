@@ -2,11 +2,8 @@
 use Prim.Native.Nat.{ℕ, _+_}
 use native.Mathlib.Omega.{arith}
 use mathlib.Core.Path.{_≡_, sym, ap, _∙_}
-use mathlib.Core.Bool.{true}
 use mathlib.Core.List.{List, []}
-use lib.Dec.{leb}
 use lib.ListN.{length}
-use borrow.Author.Tests.{le-leb}
 use Rattle.octets.specs.Put.{put}
 use Rattle.octets.proofs.Put.{put-nil}
 use Rattle.line.specs.Events.{Event, silence}
@@ -15,7 +12,7 @@ use Rattle.line.specs.declared.state.State.the-variants.{Hunting}
 use Rattle.line.specs.declared.moved.Ended.{Ended}
 use Rattle.line.specs.machine.Feed.{Held, holding, blank, stepped}
 use Rattle.line.specs.machine.Feed.{fresh as freshHeld}
-use Rattle.dump_lines.specs.Text.{lineMax, lineOf}
+use Rattle.dump_lines.specs.Text.{lineOf}
 use Rattle.line.specs.machine.Feed.{eventOf}
 use Rattle.dump_lines.specs.Lines.{counted, dump, dumpOf, next, told}
 use Rattle.dump_lines.specs.declared.Totals.{Totals}
@@ -51,12 +48,11 @@ returns-2 c =
     let e : Event = eventOf (st .result .ended) (st .last .1 .0) in
     let is : stepped (holding (a .state) (a .bytes .now)) (a .byte) ≡ (freshHeld, e) = is-over (a .state) (a .bytes .now) (a .byte) (st .ensures .0) (st .ensures .1) (c .before .before .before .before .before .before .match .keys2) in
     let line = told-is (a .state) (a .bytes .now) (a .totals) (a .byte) is in
-    let w = c .before .before .before .write-line in
-    let fits : leb (a .at + lineMax) (length (a .out .now)) ≡ true = le-leb (a .at + lineMax) (length (a .out .now)) (omega arith) in (
+    let w = c .before .before .before .write-line in (
       ap (dump Hunting blank) (c .before .before .before .before .before .before .before .counted .ensures (st .last .1 .0)) ∙ next-is (a .state) (a .bytes .now) (a .totals) (a .byte) is,
       (
-        rw fits at (w .ensures .0) ∙ ap (λ (x : List ℕ). a .at + length x) line,
-        rw fits at (w .ensures .1) ∙ ap (put (a .out .now) (a .at)) line,
+        w .ensures .place ∙ ap (λ (x : List ℕ). a .at + length x) line,
+        w .ensures .content ∙ ap (put (a .out .now) (a .at)) line,
       ),
     )
 

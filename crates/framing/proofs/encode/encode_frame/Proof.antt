@@ -1,49 +1,16 @@
-use Prim.Native.Nat.{ℕ, _+_, _-_, _≤_}
+-- Each refusal by its test, and the rest by the layout that was put.
+use Prim.Native.Nat.{_+_, _≤_}
 use native.Mathlib.Omega.{arith}
-use mathlib.Core.Path.{_≡_, refl, sym, ap, _∙_}
-use mathlib.Core.List.{List, [], _∷_, _++_, append-assoc}
-use lib.ListN.{length, set, take, drop, length-append, length-set, length-replicate}
-use Rattle.octets.specs.Check.{check, checkFrom}
-use Rattle.octets.specs.Put.{put, putIfFits}
-use Rattle.octets.proofs.Check.{check-append}
-use Rattle.octets.proofs.Put.{length-put, put-put, put-snoc, put-fitting, part-put, put-wrote}
-use Rattle.types.specs.declared.delimiter.FrameType.{FrameType}
-use Rattle.types.specs.declared.address.Address.{Address}
-use Rattle.types.specs.Delimiter.{delimiter}
-use Rattle.types.specs.Address.{addressLength, isLong, addressBytes}
+use mathlib.Core.Path.{_≡_, sym, _∙_}
+use lib.ListN.{length}
+use Rattle.octets.proofs.Put.{put-wrote}
+use Rattle.types.specs.Address.{isLong}
 use Rattle.types.proofs.Addresses.{address-length-le}
-use Rattle.line.specs.Layout.{preambles, body, checkOf}
 use Rattle.line.specs.Encode.{wireOf, layout, total}
 use Rattle.line.proofs.Encoded.{length-layout, encoded-long, encoded-small, encoded-fits}
-use Rattle.framing.specs.Head.{head}
-use Rattle.framing.proofs.Heads.{length-head, head-body}
 use borrow.Author.Needs.{needs}
 use Rattle.framing.proofs.encode.encode_frame.Statement.{statement}
 use Rattle.framing.proofs.encode.encode_frame.Tie as tie
-
-module _ (t : FrameType) (a : Address) (c n : ℕ) where
-  -- head, data that are copied, and check
-  layout-made : (ds l : List ℕ) {h d : List ℕ} (at to k : ℕ) → at ≡ n + 3 + addressLength (isLong a) → h ≡ put l 0 (head t a c (length ds) n) → d ≡ putIfFits h at ds → to ≡ at + length ds
-      → k ≡ checkFrom (check (take (at - n) (drop n h))) ds → total n (isLong a) (length ds) ≤ length l → set d to k ≡ put l 0 (layout n (wireOf t a c ds))
-  layout-made ds l {h} {d} at to k ea eh ed et ek room =
-      let w = wireOf t a c ds in
-      let hd = head t a c (length ds) n in
-      let front = delimiter t (isLong a) ∷ (addressBytes a ++ (c ∷ length ds ∷ [])) in
-      let lh : length hd ≡ n + 3 + addressLength (isLong a) = length-head t a c n (length ds) in
-      let lb : length (preambles n ++ body w) ≡ to = omega (arith, sym (ap length (head-body t a c n ds)), length-append hd ds) in
-      let lp : length (preambles n) ≡ n = length-replicate {A = ℕ} n 255 in
-      let pre = put l 0 (preambles n) in
-      let behind : h ≡ put pre n front = eh ∙ sym (put-put l 0 (preambles n) front n (omega arith) (omega arith)) in
-      let size : length front ≡ at - n = omega (arith, length-append (preambles n) front) in
-      let part : take (at - n) (drop n h) ≡ front =
-      ap (λ (q : List ℕ). take (at - n) (drop n q)) behind ∙ part-put pre n front (at - n) (omega (arith, length-put l 0 (preambles n) (omega arith))) size in
-      let checked : k ≡ checkOf w =
-      ek ∙ ap (λ (q : List ℕ). checkFrom (check q) ds) part ∙ sym (check-append 0 front ds) ∙ ap check (append-assoc (delimiter t (isLong a) ∷ addressBytes a) (c ∷ length ds ∷ []) ds) in
-      let both : d ≡ put l 0 (preambles n ++ body w) =
-      ed ∙ ap (λ (q : List ℕ). putIfFits q at ds) eh ∙ put-fitting (put l 0 hd) at ds (omega (arith, length-put l 0 hd (omega arith))) ∙ put-put l 0 hd ds at (omega arith) (omega arith) ∙ ap (put l 0) (head-body t a c n ds) in
-      ap (λ (q : List ℕ). set q to k) both
-      ∙ put-snoc l 0 (preambles n ++ body w) k to (omega arith) (omega arith)
-      ∙ ap (λ (x : ℕ). put l 0 ((preambles n ++ body w) ++ (x ∷ []))) checked
 
 returns : tie.Need-returns
 returns c = let a = c .before .before .before .args in sym (encoded-long (a .frame-type) (a .address) (a .command) (a .«data» .now) (a .preamble-count) (a .buf .now) (c .if1 .taken))
@@ -59,23 +26,20 @@ returns-2 c =
     let a = c .before .before .before .before .before .args in
     sym (encoded-small (a .frame-type) (a .address) (a .command) (a .«data» .now) (a .preamble-count) (a .buf .now) (c .before .before .if1 .left) (omega (arith, c .if2 .taken, c .before .length-of .ensures)))
 
-same-length : tie.Need-same-length
-same-length c = simp length-set (c .before .before .copy-into .kept .1 .0 ∙ c .before .before .before .before .before .before .before .before .before .before .write-head .kept .1 .1 .1 .1 .1 .0)
+write-frame-requires : tie.Need-write-frame-requires
+write-frame-requires c κs = (omega (arith, c .before .before .before .if1 .left), omega (arith, c .before .before .length-of .ensures))
 
 returns-3 : tie.Need-returns-3
 returns-3 c =
-    let a = c .before .before .before .before .before .before .before .before .before .before .before .before .before .before .before .before .before .args in
+    let a = c .before .before .before .before .before .before .before .before .before .args in
     let ds = a .«data» .now in
     let n = a .preamble-count in
-    let h = c .before .before .before .before .before .before .before .before .before .before .write-head in
-    let length-told = c .before .before .before .before .before .before .before .before .before .before .before .before .before .length-of .ensures in
+    let length-told = c .before .before .before .before .before .length-of .ensures in
     let frame = layout n (wireOf (a .frame-type) (a .address) (a .command) ds) in
-    let room : total n (isLong (a .address)) (length ds) ≤ length (a .buf .now) = omega (arith, c .before .before .before .before .before .before .before .before .before .before .before .before .if2 .left, length-told) in
-    let checked = c .before .before .before .before .checksum-from .ensures ∙ ap (λ (k : ℕ). checkFrom k ds) (c .before .before .before .before .before .check-of-head .ensures) in
-    let made = layout-made (a .frame-type) (a .address) (a .command) n ds (a .buf .now) (h .result) (h .result + length ds) (c .before .before .before .before .checksum-from .result) (h .ensures .0) (h .ensures .1) (c .before .before .copy-into .ensures) refl checked room in
-    let count : n + 4 + c .before .before .before .before .before .before .before .before .before .before .before .before .before .length-of .result + length ds ≡ length frame = omega (arith, length-layout (a .frame-type) (a .address) (a .command) n ds, length-told) in
-    put-wrote (a .buf .now) frame made count
-    ∙ sym (encoded-fits (a .frame-type) (a .address) (a .command) ds n (a .buf .now) (c .before .before .before .before .before .before .before .before .before .before .before .before .before .before .if1 .left) room)
+    let room : total n (isLong (a .address)) (length ds) ≤ length (a .buf .now) = omega (arith, c .before .before .before .before .if2 .left, length-told) in
+    let count : n + 4 + c .before .before .before .before .before .length-of .result + length ds ≡ length frame = omega (arith, length-layout (a .frame-type) (a .address) (a .command) n ds, length-told) in
+    put-wrote (a .buf .now) frame (c .before .before .write-frame .ensures) count
+    ∙ sym (encoded-fits (a .frame-type) (a .address) (a .command) ds n (a .buf .now) (c .before .before .before .before .before .before .if1 .left) room)
 
 pub encode-frame-spec : {M : Type 1} → statement M
 encode-frame-spec =
@@ -87,15 +51,6 @@ encode-frame-spec =
     add-total-2
     add-total-3
     returns-2
+    write-frame-requires
     (λ c. search needs)
-    (λ c κs. search needs)
-    (λ c. search needs)
-    (λ c. search needs)
-    (λ c. search needs)
-    (λ c κs. search needs)
-    (λ c κs. search needs)
-    (λ c κs. search needs)
-    (λ c. search needs)
-    (λ c. search needs)
-    same-length
     returns-3)

@@ -12,7 +12,7 @@ returns : tie.Need-returns
 returns c =
     let l = c .before .before .before .before .before .before .args .block .now in
     let whole : length l ≡ 266 = c .before .before .before .before .if1 .taken in
-    ap (clears 0) (c .before .before .clear .ensures ∙ ap (λ (n : ℕ). replicate n 0) whole) ∙ sym (clear-whole l whole)
+    ap (clears 0) (c .before .before .fill .ensures ∙ ap (λ (n : ℕ). replicate n 0) whole) ∙ sym (clear-whole l whole)
 
 returns-2 : tie.Need-returns-2
 returns-2 c = sym (clear-refused (c .before .before .args .block .now) (c .if1 .left))

@@ -16,7 +16,7 @@ returns c =
     let l = a .block .now in
     let rest : take (length l - 6) (drop 6 l) ≡ drop 6 l = take-all (length l - 6) (drop 6 l) (omega (arith, length-drop 6 l)) in
     let written = c .before .before .before .before .before .before .before .before .write-record .ensures in
-    record-told (a .moved .ended) (a .moved .state) l (a .room .now) (c .before .before .before .before .before .before .before .before .before .before .before .before .before .before .pre .0) (c .before .before .before .before .before .before .before .before .before .before .before .before .before .before .pre .1) rest (written .0) (written .1) (rw (c .before .before .before .before .enum-told .given .1) (c .before .before .store-state .ensures ∙ put-header (headerOf (a .moved .state)) l))
+    record-told (a .moved .ended) (a .moved .state) l (a .room .now) rest (written .0) (written .1) (rw (c .before .before .before .before .enum-told .given .1) (c .before .before .store-state .ensures ∙ put-header (headerOf (a .moved .state)) l))
 
 returns-2 : tie.Need-returns-2
 returns-2 c =
@@ -24,7 +24,7 @@ returns-2 c =
     let l = a .block .now in
     let rest : take (length l - 6) (drop 6 l) ≡ drop 6 l = take-all (length l - 6) (drop 6 l) (omega (arith, length-drop 6 l)) in
     let written = c .before .before .before .before .before .before .before .before .write-record .ensures in
-    record-told (a .moved .ended) (a .moved .state) l (a .room .now) (c .before .before .before .before .before .before .before .before .before .before .before .before .before .before .pre .0) (c .before .before .before .before .before .before .before .before .before .before .before .before .before .before .pre .1) rest (written .0) (written .1) (rw (c .before .before .before .before .enum-told2 .given .1) (c .before .before .clear .ensures ∙ ap (λ (n : ℕ). replicate n 0) (c .before .before .before .before .before .before .before .before .before .before .before .before .before .before .pre .0) ∙ sym block-fresh))
+    record-told (a .moved .ended) (a .moved .state) l (a .room .now) rest (written .0) (written .1) (rw (c .before .before .before .before .enum-told2 .given .1) (c .before .before .fill .ensures ∙ ap (λ (n : ℕ). replicate n 0) (c .before .before .before .before .before .before .before .before .before .before .before .before .before .before .pre .0) ∙ sym block-fresh))
 
 returns-3 : tie.Need-returns-3
 returns-3 c =
@@ -32,7 +32,7 @@ returns-3 c =
     let l = a .block .now in
     let rest : take (length l - 6) (drop 6 l) ≡ drop 6 l = take-all (length l - 6) (drop 6 l) (omega (arith, length-drop 6 l)) in
     let written = c .before .before .before .before .before .before .before .before .write-record .ensures in
-    record-told (a .moved .ended) (a .moved .state) l (a .room .now) (c .before .before .before .before .before .before .before .before .before .before .before .before .before .before .pre .0) (c .before .before .before .before .before .before .before .before .before .before .before .before .before .before .pre .1) rest (written .0) (written .1) (rw (c .before .before .before .before .enum-told3 .given .1) (c .before .before .clear2 .ensures ∙ ap (λ (n : ℕ). replicate n 0) (c .before .before .before .before .before .before .before .before .before .before .before .before .before .before .pre .0) ∙ sym block-fresh))
+    record-told (a .moved .ended) (a .moved .state) l (a .room .now) rest (written .0) (written .1) (rw (c .before .before .before .before .enum-told3 .given .1) (c .before .before .fill2 .ensures ∙ ap (λ (n : ℕ). replicate n 0) (c .before .before .before .before .before .before .before .before .before .before .before .before .before .before .pre .0) ∙ sym block-fresh))
 
 pub settle-spec : {M : Type 1} → statement M
 settle-spec =
