@@ -168,7 +168,7 @@ fn write_refusal(place: u64, refusal: Refusal, out: &mut [u8], at: usize) -> usi
     at
 }
 
-// The line of what a byte ended, if that has one.
+// The line of what a byte ended, if that has one, from place `at` on; gives back the place behind it.
 pub(crate) fn write_line(
     place: u64,
     ended: Ended,

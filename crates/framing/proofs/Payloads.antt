@@ -79,3 +79,8 @@ module _ {A : Type 0} (read : List ℕ → A) (refuse : ℕ → List ℕ → A) 
 
   pub passed-refused : {r : Refusal} → v ≡ Refused r → judgementOf v ≡ typed wanted t command (p .bytes) → refuse (numberOf r) (valuesOf r) ≡ passedOn read refuse (typed wanted t command (p .bytes)) (p .bytes)
   passed-refused told said = ap (λ (j : Judgement). passedOn read refuse j (p .bytes)) (sym (ap judgementOf told) ∙ said)
+
+  -- the same where the answer is made of the verdict itself
+  pub passed-verdict : {r : Refusal} (nothing : Judgement → A) → nothing (refused (numberOf r) (valuesOf r)) ≡ refuse (numberOf r) (valuesOf r) → v ≡ Refused r → judgementOf v ≡ typed wanted t command (p .bytes)
+      → nothing (judgementOf v) ≡ passedOn read refuse (typed wanted t command (p .bytes)) (p .bytes)
+  passed-verdict nothing same told said = ap (λ (u : PayloadVerdict). nothing (judgementOf u)) told ∙ same ∙ passed-refused told said

@@ -52,11 +52,11 @@ pub put-header : (n : ℕ) (block : List ℕ) → put block 0 (digits 256 6 n) �
 put-header n block = put-front block (digits 256 6 n) ∙ ap (λ (k : ℕ). digits 256 6 n ++ drop k block) (length-digits 256 6 n)
 
 -- what was written of a byte, where the block is then as it must be
-pub record-told : (x : Ended) (s : State) (block lent : List ℕ) {n : ℕ} {after room part : List ℕ} → part ≡ drop 6 block
-    → n ≡ length (recordOf (eventOf x part)) → room ≡ put lent 0 (recordOf (eventOf x part)) → after ≡ blockOf ((settledBy x s (drop 6 block)) .0)
-    → tells n after room ≡ recorded (settledBy x s (drop 6 block)) lent
-record-told x s block lent {part = part} ep en er ea =
-    let e : eventOf x part ≡ (settledBy x s (drop 6 block)) .1 = ap (eventOf x) ep ∙ sym (settled-event x s (drop 6 block)) in
+pub record-told : (x : Ended) (s : State) (block lent : List ℕ) {n : ℕ} {after room : List ℕ} → (n ≡ length (recordOf (eventOf x (midOf 6 (length block - 6) block)))) × (room ≡ put lent 0 (recordOf (eventOf x (midOf 6 (length block - 6) block))))
+    → after ≡ blockOf ((settledBy x s (drop 6 block)) .0) → tells n after room ≡ recorded (settledBy x s (drop 6 block)) lent
+record-told x s block lent (en, er) ea =
+    let behind : midOf 6 (length block - 6) block ≡ drop 6 block = take-all (length block - 6) (drop 6 block) (omega (arith, length-drop 6 block)) in
+    let e : eventOf x (midOf 6 (length block - 6) block) ≡ (settledBy x s (drop 6 block)) .1 = ap (eventOf x) behind ∙ sym (settled-event x s (drop 6 block)) in
     rw (en, er, ea, e)
 
 module _ (block : List ℕ) where

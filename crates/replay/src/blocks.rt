@@ -10,7 +10,7 @@ use crate::text::OUT_SIZE;
 use crate::text::put;
 use crate::text::put_buffer;
 use crate::text::put_marked;
-use crate::writers::fill;
+use crate::writers::fill_pattern;
 use hart::hart_clear;
 use hart::hart_feed;
 use octets::copy_into;
@@ -49,7 +49,7 @@ pub(crate) fn feed_copy(bytes: &[u8], out: &mut [u8; OUT_SIZE], at: usize) -> us
     let mut block = [0u8; ROOM_MAX];
     let mut room = [0u8; ROOM_MAX];
     copy_into(given, &mut block, 0);
-    fill(&mut room);
+    fill_pattern(&mut room);
     put_fed(
         front(&mut block, given.len()),
         front(&mut room, u16_in(bytes)),

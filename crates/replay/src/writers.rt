@@ -40,7 +40,7 @@ fn room_in(letter: u8, bytes: &[u8]) -> usize {
 }
 
 // A buffer before a call: a byte that the call leaves alone can be told by its place.
-pub(crate) fn fill(buffer: &mut [u8]) {
+pub(crate) fn fill_pattern(buffer: &mut [u8]) {
     let mut i = 0;
     while i < buffer.len() {
         buffer[i] = 0xA0 + (i % 16) as u8;
@@ -124,7 +124,7 @@ fn answer_into(
     out: &mut [u8; OUT_SIZE],
     at: usize,
 ) -> usize {
-    fill(buffer);
+    fill_pattern(buffer);
     let written = write(letter, mode_of(is_capital(letter)), bytes, buffer);
     let next = put_outcome(written, out, at);
     put_buffer(buffer, out, next)

@@ -1,22 +1,17 @@
 -- A refusal is passed on as it is, and what is carried is read behind the status bytes.
-use mathlib.Core.Path.{_≡_, ap, _∙_}
+use mathlib.Core.Path.{refl, _∙_}
 use borrow.Author.Needs.{needs}
 use Rattle.octets.specs.Part.{partOf}
-use Rattle.framing.specs.declared.payload.PayloadVerdict.{PayloadVerdict}
-use Rattle.framing.specs.Payload.{judgementOf}
-use Rattle.framing.proofs.Payloads.{passed-carried, passed-refused}
-use Rattle.commands.specs.Variables.{variablesOf, nothingRead, refusedRead, variablesRead}
+use Rattle.framing.proofs.Payloads.{passed-carried, passed-verdict}
+use Rattle.commands.specs.Variables.{nothingRead, refusedRead, variablesRead}
 use Rattle.commands.proofs.read_device_vars.read_frame.Statement.{statement}
 use Rattle.commands.proofs.read_device_vars.read_frame.Tie as tie
 
 returns : tie.Need-returns
 returns c =
     let a = c .before .before .before .before .before .args in
-    let told = c .before .enum-told2 .given .1 in
-    let said : variablesOf (c .refused .result) ≡ nothingRead (judgementOf (c .before .before .before .typed-verdict .result)) = c .refused .ensures in
-    said
-    ∙ ap (λ (v : PayloadVerdict). nothingRead (judgementOf v)) told
-    ∙ passed-refused (variablesRead (a .mode)) refusedRead 9 (a .frame-type) (a .command) (partOf (a .«data»)) told (c .before .before .before .typed-verdict .ensures)
+    c .refused .ensures
+    ∙ passed-verdict (variablesRead (a .mode)) refusedRead 9 (a .frame-type) (a .command) (partOf (a .«data»)) nothingRead refl (c .before .enum-told2 .given .1) (c .before .before .before .typed-verdict .ensures)
 
 returns-2 : tie.Need-returns-2
 returns-2 c =

@@ -1,9 +1,7 @@
 -- `settle` meets its contract.
-use Prim.Native.Nat.{ℕ, _-_}
-use native.Mathlib.Omega.{arith}
-use mathlib.Core.Path.{_≡_, sym, ap, _∙_}
-use lib.ListN.{length, take, drop, replicate, length-drop}
-use lib.Seq.{take-all}
+use Prim.Native.Nat.{ℕ}
+use mathlib.Core.Path.{sym, ap, _∙_}
+use lib.ListN.{replicate}
 use Rattle.host.specs.Header.{headerOf}
 use Rattle.host.proofs.Blocks.{put-header, block-fresh, record-told}
 use borrow.Author.Needs.{needs}
@@ -14,25 +12,19 @@ returns : tie.Need-returns
 returns c =
     let a = c .before .before .before .before .before .before .before .before .before .before .before .before .before .before .args in
     let l = a .block .now in
-    let rest : take (length l - 6) (drop 6 l) ≡ drop 6 l = take-all (length l - 6) (drop 6 l) (omega (arith, length-drop 6 l)) in
-    let written = c .before .before .before .before .before .before .before .before .write-record .ensures in
-    record-told (a .moved .ended) (a .moved .state) l (a .room .now) rest (written .0) (written .1) (rw (c .before .before .before .before .enum-told .given .1) (c .before .before .store-state .ensures ∙ put-header (headerOf (a .moved .state)) l))
+    record-told (a .moved .ended) (a .moved .state) l (a .room .now) (c .before .before .before .before .before .before .before .before .write-record .ensures) (rw (c .before .before .before .before .enum-told .given .1) (c .before .before .store-state .ensures ∙ put-header (headerOf (a .moved .state)) l))
 
 returns-2 : tie.Need-returns-2
 returns-2 c =
     let a = c .before .before .before .before .before .before .before .before .before .before .before .before .before .before .args in
     let l = a .block .now in
-    let rest : take (length l - 6) (drop 6 l) ≡ drop 6 l = take-all (length l - 6) (drop 6 l) (omega (arith, length-drop 6 l)) in
-    let written = c .before .before .before .before .before .before .before .before .write-record .ensures in
-    record-told (a .moved .ended) (a .moved .state) l (a .room .now) rest (written .0) (written .1) (rw (c .before .before .before .before .enum-told2 .given .1) (c .before .before .fill .ensures ∙ ap (λ (n : ℕ). replicate n 0) (c .before .before .before .before .before .before .before .before .before .before .before .before .before .before .pre .0) ∙ sym block-fresh))
+    record-told (a .moved .ended) (a .moved .state) l (a .room .now) (c .before .before .before .before .before .before .before .before .write-record .ensures) (rw (c .before .before .before .before .enum-told2 .given .1) (c .before .before .fill .ensures ∙ ap (λ (n : ℕ). replicate n 0) (c .before .before .before .before .before .before .before .before .before .before .before .before .before .before .pre .0) ∙ sym block-fresh))
 
 returns-3 : tie.Need-returns-3
 returns-3 c =
     let a = c .before .before .before .before .before .before .before .before .before .before .before .before .before .before .args in
     let l = a .block .now in
-    let rest : take (length l - 6) (drop 6 l) ≡ drop 6 l = take-all (length l - 6) (drop 6 l) (omega (arith, length-drop 6 l)) in
-    let written = c .before .before .before .before .before .before .before .before .write-record .ensures in
-    record-told (a .moved .ended) (a .moved .state) l (a .room .now) rest (written .0) (written .1) (rw (c .before .before .before .before .enum-told3 .given .1) (c .before .before .fill2 .ensures ∙ ap (λ (n : ℕ). replicate n 0) (c .before .before .before .before .before .before .before .before .before .before .before .before .before .before .pre .0) ∙ sym block-fresh))
+    record-told (a .moved .ended) (a .moved .state) l (a .room .now) (c .before .before .before .before .before .before .before .before .write-record .ensures) (rw (c .before .before .before .before .enum-told3 .given .1) (c .before .before .fill2 .ensures ∙ ap (λ (n : ℕ). replicate n 0) (c .before .before .before .before .before .before .before .before .before .before .before .before .before .before .pre .0) ∙ sym block-fresh))
 
 pub settle-spec : {M : Type 1} → statement M
 settle-spec =
