@@ -1,5 +1,6 @@
 # The library for C and Rust hosts on x86-64 Linux. `make` proves and builds it and needs the Rattle
-# toolchain; `make install` needs it no more. `make check` builds and runs the C programs as well.
+# toolchain; `make install` needs it only where a source has changed since (c/library looks), and never
+# installs an archive of other sources. `make check` builds and runs the C programs as well.
 .POSIX:
 
 PREFIX = /usr/local
@@ -12,13 +13,16 @@ INSTALLED_HEADER = $(DESTDIR)$(INCLUDEDIR)/hart.h
 INSTALLED_FLAGS = $(DESTDIR)$(LIBDIR)/pkgconfig/hart.pc
 
 all:
-	rt staticlib hart
+	c/library
 
 check:
 	c/run
 
-$(ARCHIVE):
-	rt staticlib hart
+# POSIX make has no way to name all files of some folders, so the sources are no prerequisites in its eyes.
+$(ARCHIVE): sources
+	c/library --if-changed
+
+sources:
 
 install: $(ARCHIVE)
 	mkdir -p "$(DESTDIR)$(LIBDIR)/pkgconfig" "$(DESTDIR)$(INCLUDEDIR)"
@@ -31,4 +35,4 @@ install: $(ARCHIVE)
 uninstall:
 	rm -f "$(INSTALLED_ARCHIVE)" "$(INSTALLED_HEADER)" "$(INSTALLED_FLAGS)"
 
-.PHONY: all check install uninstall
+.PHONY: all check install sources uninstall

@@ -37,15 +37,15 @@ static double median(double *times)
     return times[REPETITIONS / 2];
 }
 
-/* A row's end: the Rust's time for one of `parts`, and the others' with their ratio to it. */
+/* A row's end: the Rust's two times for one of `parts`, the others' with their ratio to either. */
 static void print_times(double times[][REPETITIONS], int ways, double parts)
 {
-    double rust = median(times[0]);
+    double rust = median(times[0]), lto = median(times[1]);
     int w;
-    printf(" %.2f |", rust / parts);
-    for (w = 1; w < ways; w++) {
+    printf(" %.2f | %.2f |", rust / parts, lto / parts);
+    for (w = 2; w < ways; w++) {
         double time = median(times[w]);
-        printf(" %.2f (%.2f) |", time / parts, time / rust);
+        printf(" %.2f (%.2f, %.2f) |", time / parts, time / rust, time / lto);
     }
     printf("\n");
     fflush(stdout);
@@ -65,8 +65,8 @@ static void time_feeds(void)
     static double times[FEEDS][REPETITIONS];
     int s, w, r;
     printf("Feeding a stream, a byte of it\n\n"
-           "| Stream | frames, refusals | Rust | step | lent | by value | C call |\n"
-           "|---|---|---|---|---|---|---|\n");
+           "| Stream | frames, refusals | Rust | Rust, LTO | step | lent | by value | C call |\n"
+           "|---|---|---|---|---|---|---|---|\n");
     for (s = 0; s < STREAMS; s++) {
         uint64_t sum;
         make_stream(s);
@@ -88,8 +88,8 @@ static void time_writes(void)
     static double times[WRITES][REPETITIONS];
     int f, w, r;
     printf("\nWriting a frame\n\n"
-           "| Frame | bytes | Rust | ours |\n"
-           "|---|---|---|---|\n");
+           "| Frame | bytes | Rust | Rust, LTO | ours |\n"
+           "|---|---|---|---|---|\n");
     for (f = 0; f < FRAMES; f++) {
         uint64_t bytes;
         compare_writes(&frames[f]);
@@ -143,8 +143,8 @@ static void time_dumps(const char *folder)
     int table = dup(STDOUT_FILENO);
     int s, w, r;
     printf("\nThe dump of a stream, a byte of it\n\n"
-           "| Stream | Rust | ours |\n"
-           "|---|---|---|\n");
+           "| Stream | Rust | Rust, LTO | ours |\n"
+           "|---|---|---|---|\n");
     for (s = 0; s < STREAMS; s++) {
         write_stream(folder, s);
         fflush(stdout);

@@ -47,10 +47,13 @@ static void put_frame(unsigned preambles, unsigned delimiter, unsigned count, un
 }
 
 /* Long responses of 8 to 40 data bytes behind 10 FF. One in 20 has a wrong check, and behind one in
- * 10 there is noise. */
+ * 10 there is noise. Two draws never stand in one call: C leaves open which of its arguments comes
+ * first, and compilers differ. */
 static void put_realistic(void)
 {
-    put_frame(10, 0x86, 8 + below(33), below(20) == 0 ? 1 + below(255) : 0);
+    unsigned count = 8 + below(33);
+    unsigned damage = below(20) == 0 ? 1 + below(255) : 0;
+    put_frame(10, 0x86, count, damage);
     if (below(10) == 0)
         put_noise(1 + below(30));
 }

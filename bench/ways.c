@@ -21,12 +21,16 @@ uint64_t bench_written(_Bool is_long, const struct slice *data, uint8_t preamble
                        const struct slice *room);
 int bench_dump(void);
 
-/* The Rust's: bench/rust. */
+/* The Rust's: bench/rust, built twice by bench/run. */
 uint64_t rust_feed(const uint8_t *run, size_t n);
 uint64_t rust_last(const uint8_t *run, size_t n);
 uint64_t rust_write(_Bool is_long, const uint8_t *data, size_t n, uint8_t preambles, uint32_t count,
                     uint8_t *room, size_t size);
 int rust_dump(void);
+uint64_t lto_feed(const uint8_t *run, size_t n);
+uint64_t lto_write(_Bool is_long, const uint8_t *data, size_t n, uint8_t preambles, uint32_t count,
+                   uint8_t *room, size_t size);
+int lto_dump(void);
 
 /* Of the toolchain's C code the one call that the dump makes. */
 int rattle_errno(void);
@@ -62,6 +66,11 @@ static const struct slice run = {stream, STREAM_SIZE};
 static uint64_t feed_rust(void)
 {
     return rust_feed(stream, STREAM_SIZE);
+}
+
+static uint64_t feed_lto(void)
+{
+    return lto_feed(stream, STREAM_SIZE);
 }
 
 static uint64_t feed_step(void)
@@ -107,14 +116,16 @@ static uint64_t feed_c(void)
 }
 
 const struct feed feeds[FEEDS] = {
-    {"feed-rust", feed_rust},   {"feed-step", feed_step}, {"feed-lent", feed_lent},
-    {"feed-value", feed_value}, {"feed-c", feed_c},
+    {"feed-rust", feed_rust}, {"feed-lto", feed_lto},     {"feed-step", feed_step},
+    {"feed-lent", feed_lent}, {"feed-value", feed_value}, {"feed-c", feed_c},
 };
 
 void compare_feeds(const char *stream_name)
 {
     uint64_t sum = feed_rust();
     size_t heard = (size_t)frames_of(sum) + refusals_of(sum);
+    if (feed_lto() != sum)
+        die("the Rust hears something else when built with LTO", stream_name);
     if (feed_step() != sum)
         die("step hears something else than the Rust", stream_name);
     if (feed_value() != sum)
@@ -135,11 +146,16 @@ const struct frame frames[FRAMES] = {
     {"short address, 255 data bytes", 0, 255}, {"long address, 255 data bytes", 1, 255},
 };
 
-static uint8_t data[255], our_room[300], rust_room[300];
+static uint8_t data[255], our_room[300], rust_room[300], lto_room[300];
 
 static uint64_t write_rust(const struct frame *frame)
 {
     return rust_write(frame->is_long, data, frame->length, 5, WRITTEN, rust_room, sizeof rust_room);
+}
+
+static uint64_t write_lto(const struct frame *frame)
+{
+    return lto_write(frame->is_long, data, frame->length, 5, WRITTEN, lto_room, sizeof lto_room);
 }
 
 static uint64_t write_ours(const struct frame *frame)
@@ -148,13 +164,19 @@ static uint64_t write_ours(const struct frame *frame)
     return bench_written(frame->is_long, &lent_data, 5, WRITTEN, &room);
 }
 
-const struct write writes[WRITES] = {{"write-rust", write_rust}, {"write-ours", write_ours}};
+const struct write writes[WRITES] = {
+    {"write-rust", write_rust}, {"write-lto", write_lto}, {"write-ours", write_ours}};
 
 void compare_writes(const struct frame *frame)
 {
+    uint64_t total;
     make_bytes(data, sizeof data);
-    if (write_ours(frame) != write_rust(frame) || memcmp(our_room, rust_room, sizeof our_room) != 0)
+    total = write_rust(frame);
+    if (write_lto(frame) != total || memcmp(lto_room, rust_room, sizeof lto_room) != 0)
+        die("the Rust writes something else when built with LTO", frame->name);
+    if (write_ours(frame) != total || memcmp(our_room, rust_room, sizeof our_room) != 0)
         die("the encoder writes something else than the Rust", frame->name);
 }
 
-const struct dump dumps[DUMPS] = {{"dump-rust", rust_dump}, {"dump-ours", bench_dump}};
+const struct dump dumps[DUMPS] = {
+    {"dump-rust", rust_dump}, {"dump-lto", lto_dump}, {"dump-ours", bench_dump}};

@@ -1,3 +1,4 @@
+/* SPDX-License-Identifier: Apache-2.0 */
 /* Listens to the bytes of a line on standard input and prints what they say, as the program `dump`
  * of this repository does:
  *

@@ -1,3 +1,4 @@
+/* SPDX-License-Identifier: Apache-2.0 */
 /* Tries the two calls at their edges. Prints how many checks were made, or each that failed. */
 #include <stdio.h>
 #include <string.h>

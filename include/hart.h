@@ -1,3 +1,4 @@
+/* SPDX-License-Identifier: Apache-2.0 */
 /* hart.h: HART lines, decoded byte by byte, for C and C++ programs on x86-64 Linux.
  *
  *     unsigned char block[HART_BLOCK_SIZE];    what is known of one line so far

@@ -1,3 +1,4 @@
+/* SPDX-License-Identifier: Apache-2.0 */
 /* The toolchain has a C library and no headers for it. For a build with the toolchain alone, this
  * folder declares what the programs beside it call; every other build uses the system's headers. */
 #ifndef STDIO_H

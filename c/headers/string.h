@@ -1,3 +1,4 @@
+/* SPDX-License-Identifier: Apache-2.0 */
 /* see stdio.h */
 #ifndef STRING_H
 #define STRING_H

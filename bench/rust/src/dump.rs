@@ -76,8 +76,8 @@ fn dump(mut input: impl Read, mut output: impl Write) -> io::Result<()> {
 }
 
 /// 0, or 1 where it could not read or write.
-#[no_mangle]
-pub extern "C" fn rust_dump() -> i32 {
+#[export_name = concat!(env!("NAMES"), "_dump")]
+pub extern "C" fn dump_all() -> i32 {
     // SAFETY: the two are open as long as the program runs, and are not closed here.
     let (input, output) = unsafe { (File::from_raw_fd(0), File::from_raw_fd(1)) };
     let (input, output) = (ManuallyDrop::new(input), ManuallyDrop::new(output));

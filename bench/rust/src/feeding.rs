@@ -21,8 +21,8 @@ fn heard(decoder: &mut Decoder, byte: u8) -> u64 {
 
 /// # Safety
 /// `run` is good for `n` bytes.
-#[no_mangle]
-pub unsafe extern "C" fn rust_feed(run: *const u8, n: usize) -> u64 {
+#[export_name = concat!(env!("NAMES"), "_feed")]
+pub unsafe extern "C" fn feed(run: *const u8, n: usize) -> u64 {
     let mut decoder = Decoder::new();
     let mut sum: u64 = 0;
     for &byte in slice::from_raw_parts(run, n) {
@@ -35,8 +35,8 @@ pub unsafe extern "C" fn rust_feed(run: *const u8, n: usize) -> u64 {
 ///
 /// # Safety
 /// `run` is good for `n` bytes.
-#[no_mangle]
-pub unsafe extern "C" fn rust_last(run: *const u8, n: usize) -> u64 {
+#[export_name = concat!(env!("NAMES"), "_last")]
+pub unsafe extern "C" fn last(run: *const u8, n: usize) -> u64 {
     let mut decoder = Decoder::new();
     slice::from_raw_parts(run, n)
         .iter()

@@ -19,8 +19,8 @@ fn address_of(long: bool) -> Address {
 
 /// # Safety
 /// `data` is good for `n` bytes, `room` for `size`, and they do not overlap.
-#[no_mangle]
-pub unsafe extern "C" fn rust_write(
+#[export_name = concat!(env!("NAMES"), "_write")]
+pub unsafe extern "C" fn write(
     long: bool,
     data: *const u8,
     n: usize,

@@ -9,10 +9,10 @@ use borrow.Author.Tests.{lt-ltb, le-ltb}
 use Rattle.octets.specs.Digits.{Below, digits, fromDigits}
 use Rattle.octets.proofs.Digits.{digits-from, from-digits-whole}
 use Rattle.commands.specs.declared.identity.DeviceIdentity.{DeviceIdentity}
-use Rattle.commands.specs.Identity.{identityAt, identityBytes, Ranged, identified, refused, identity}
+use Rattle.commands.specs.Identity.{identityAt, identityBytes, IdentityLimited, identified, unidentified, identity}
 
 module _ (bs : List ℕ) where
-  pub identity-short : length bs < 12 → identity bs ≡ refused 3 []
+  pub identity-short : length bs < 12 → identity bs ≡ unidentified 3 []
   unfolding identity
   identity-short h = rw (lt-ltb (length bs) 12 h)
 
@@ -73,7 +73,7 @@ identity-back bs b h = by-twelve (λ (l : List ℕ). Below 256 l → identityByt
         ∙ ap₂ (λ (x : ℕ) (y : List ℕ). b0 ∷ b1 ∷ b2 ∷ b3 ∷ b4 ∷ b5 ∷ b6 ∷ x ∷ b8 ∷ y) byte number
 
 -- the fields come back from their bytes, where each is one that its bits can hold
-pub fields-back : (i : DeviceIdentity) (rest : List ℕ) → Ranged i → identityAt (identityBytes i ++ rest) ≡ i
+pub fields-back : (i : DeviceIdentity) (rest : List ℕ) → IdentityLimited i → identityAt (identityBytes i ++ rest) ≡ i
 fields-back i rest (t, h, g, n) =
     let made : ℕ → ℕ → ℕ → ℕ → DeviceIdentity = λ type hardware signalling number. record {
       «expansion_code» = i .«expansion_code»;

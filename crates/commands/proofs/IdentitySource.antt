@@ -13,7 +13,7 @@ use borrow.Author.Tests.{lt-ltb, le-leb, ltb-true, ltb-false}
 use Rattle.refusal.specs.Outcome.{ends, done}
 use Rattle.octets.specs.Digits.{Below, digits, fromDigits}
 use Rattle.octets.specs.Put.{put}
-use Rattle.octets.specs.Source.{comes, Given, gives, asU8, shiftRight, shiftLeft}
+use Rattle.octets.specs.Source.{comes, Run, asU8, shiftRight, shiftLeft}
 use Rattle.octets.proofs.Digits.{below-at}
 use Rattle.octets.proofs.Put.{stores-put}
 use Rattle.commands.specs.Identity.{identified, identity}
@@ -33,15 +33,15 @@ u24-same h m l hh hm hl =
     let whole : h * 2 ^ 16 + m * 2 ^ 8 ≡ (h * 2 ^ 8 + m) * 2 ^ 8 = omega arith in
     ap (λ (x : ℕ). bitOr x l) (ap₂ bitOr high middle ∙ or-shifted h 16 (m * 2 ^ 8) (omega arith) ∙ whole) ∙ or-shifted (h * 2 ^ 8 + m) 8 l hl ∙ omega arith
 
-u24-run : {A : Type 0} (bs : List ℕ) (rest : ℕ → Given A) → ((i : ℕ) → i < 3 → getD bs i 0 < 256) → 3 ≤ length bs
+u24-run : {A : Type 0} (bs : List ℕ) (rest : ℕ → Run A) → ((i : ℕ) → i < 3 → getD bs i 0 < 256) → 3 ≤ length bs
     → sourceDecodedU24 bs rest ≡ rest (fromDigits 256 (getD bs 0 0 ∷ getD bs 1 0 ∷ getD bs 2 0 ∷ []))
 u24-run bs rest byte h =
     rw (lt-ltb 0 (length bs) (omega arith), lt-ltb 1 (length bs) (omega arith), lt-ltb 2 (length bs) (omega arith))
     (ap rest (u24-same (getD bs 0 0) (getD bs 1 0) (getD bs 2 0) (byte 0 (lit< tt)) (byte 1 (lit< tt)) (byte 2 (lit< tt))))
 
 -- `decode_u24_be` of three bytes or more
-pub decode-u24-is-source : (bs : List ℕ) → Below 256 bs → 3 ≤ length bs → sourceDecodedU24 bs gives ≡ gives (fromDigits 256 (getD bs 0 0 ∷ getD bs 1 0 ∷ getD bs 2 0 ∷ []))
-decode-u24-is-source bs b h = u24-run bs gives (λ i k. below-at 256 bs b (lit< tt) i) h
+pub decode-u24-is-source : (bs : List ℕ) → Below 256 bs → 3 ≤ length bs → sourceDecodedU24 bs comes ≡ comes (fromDigits 256 (getD bs 0 0 ∷ getD bs 1 0 ∷ getD bs 2 0 ∷ []))
+decode-u24-is-source bs b h = u24-run bs comes (λ i k. below-at 256 bs b (lit< tt) i) h
 
 -- `encode_u24_be` into three bytes or more
 low-byte : (x : ℕ) → asU8 (bitAnd x 0xFF) ≡ x % 256
@@ -62,11 +62,11 @@ encode-u24-is-source value buf h =
     )
     (ap (λ (b : List ℕ). comes (ends (done []) b)) (stores-put buf 0 (value / 256 / 256 % 256) (value / 256 % 256 ∷ value % 256 ∷ []) h))
 
-pub identity-is-source : (bs : List ℕ) → Below 256 bs → sourceIdentity bs ≡ gives (identity bs)
+pub identity-is-source : (bs : List ℕ) → Below 256 bs → sourceIdentity bs ≡ comes (identity bs)
 identity-is-source bs b = by (ltb (length bs) 12) refl
   where
-    by : (short : Bool) → ltb (length bs) 12 ≡ short → sourceIdentity bs ≡ gives (identity bs)
-    by true e = rw e (ap gives (sym (identity-short bs (ltb-true (length bs) 12 e))))
+    by : (short : Bool) → ltb (length bs) 12 ≡ short → sourceIdentity bs ≡ comes (identity bs)
+    by true e = rw e (ap comes (sym (identity-short bs (ltb-true (length bs) 12 e))))
     by false e =
         let h : 12 ≤ length bs = ltb-false (length bs) 12 e in
         let part = take 3 (drop 9 bs) in
@@ -76,5 +76,5 @@ identity-is-source bs b = by (ltb (length bs) 12) refl
         let same : (i : ℕ) → i < 3 → getD part i 0 ≡ getD bs (9 + i) 0 = λ i k. getD-take 3 (drop 9 bs) i 0 k ∙ getD-drop 9 bs i 0 in
         let number : fromDigits 256 (getD part 0 0 ∷ getD part 1 0 ∷ getD part 2 0 ∷ []) ≡ fromDigits 256 (getD bs 9 0 ∷ getD bs 10 0 ∷ getD bs 11 0 ∷ []) = rw (same 0 (lit< tt), same 1 (lit< tt), same 2 (lit< tt)) in
         rw (e, at 7 (lit< tt), at 0 (lit< tt), at 1 (lit< tt), at 2 (lit< tt), at 3 (lit< tt), at 4 (lit< tt), at 5 (lit< tt), at 6 (lit< tt), at 8 (lit< tt), le-leb 12 (length bs) h)
-        (u24-run part (λ number. gives (identified (identityWith bs (bitOr (shiftLeft 16 (getD bs 1 0) 8) (getD bs 2 0)) (bitAnd (getD bs 7 0) 0x07) number))) (λ i k. rw (same i k) (byte (9 + i))) (omega arith)
-        ∙ ap gives (identity-made bs (u16-same (getD bs 1 0) (getD bs 2 0) (byte 1) (byte 2)) (and-mask (getD bs 7 0) 3) number h))
+        (u24-run part (λ number. comes (identified (identityWith bs (bitOr (shiftLeft 16 (getD bs 1 0) 8) (getD bs 2 0)) (bitAnd (getD bs 7 0) 0x07) number))) (λ i k. rw (same i k) (byte (9 + i))) (omega arith)
+        ∙ ap comes (identity-made bs (u16-same (getD bs 1 0) (getD bs 2 0) (byte 1) (byte 2)) (and-mask (getD bs 7 0) 3) number h))

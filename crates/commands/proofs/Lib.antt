@@ -2,6 +2,8 @@ pub mod Identities
 pub mod IdentitySource
 pub mod Worths
 pub mod Texts
+pub mod Untouched
 pub mod TextRoundTrip
 pub mod TextSource
+pub mod Responses
 pub mod Determined

@@ -8,10 +8,10 @@ use mathlib.Core.List.{List, _++_, append-assoc}
 use lib.ListN.{length, take, drop, length-take, length-drop}
 use borrow.Author.Tests.{le-leb}
 use borrow.Rule.Slice.PartMut.{midOf, putMid, post-is}
-use Rattle.refusal.specs.Outcome.{wrote}
+use Rattle.refusal.specs.Outcome.{Outcome, wrote}
 use Rattle.octets.specs.Digits.{Below}
 use Rattle.octets.specs.Put.{put}
-use Rattle.octets.specs.Source.{Run, comes, afterCall, lentTo, Given, filledBy}
+use Rattle.octets.specs.Source.{Run, comes, afterCall, lentTo}
 use Rattle.octets.proofs.Put.{lent-part}
 use Rattle.packed_string.specs.declared.text_group.Mode.the-variants.{Crate}
 use Rattle.packed_string.specs.Groups.{groups}
@@ -22,16 +22,16 @@ use Rattle.commands.specs.Modes.{packedText, unpackedText, unpackedIn}
 use Rattle.commands.proofs.Texts.{length-packed-text, unpacks-full}
 
 -- a part lent to a call that wrote `bs` to its front
-lent-to : (dst : List ℕ) (from to : ℕ) (bs : List ℕ) (call rest : List ℕ → Run) → from + length bs ≤ to → to ≤ length dst
+lent-to : (dst : List ℕ) (from to : ℕ) (bs : List ℕ) (call rest : List ℕ → Run Outcome) → from + length bs ≤ to → to ≤ length dst
     → call (midOf from (to - from) dst) ≡ comes (wrote bs (midOf from (to - from) dst)) → lentTo dst from to call rest ≡ rest (put dst from bs)
 lent-to dst from to bs call rest h k e =
     let part = bs ++ drop (length bs) (midOf from (to - from) dst) in
     let back : take from dst ++ part ++ drop to dst ≡ putMid from (to - from) dst part = append-assoc (take from dst) part (drop to dst) ∙ ap (λ (r : List ℕ). take from dst ++ (part ++ r)) (sym (post-is from to dst (omega arith))) in
     rw (le-leb from to (omega arith), le-leb to (length dst) k)
-    (ap (λ (r : Run). afterCall r (λ p. rest (take from dst ++ p ++ drop to dst))) e
+    (ap (λ (r : Run Outcome). afterCall r (λ p. rest (take from dst ++ p ++ drop to dst))) e
     ∙ ap rest (back ∙ lent-part dst from (to - from) bs (omega arith) (omega arith) refl))
 
-pub source-lent : (text dst : List ℕ) (from to : ℕ) (rest : List ℕ → Run) → from + groups (length text) * 3 ≡ to → to ≤ length dst
+pub source-lent : (text dst : List ℕ) (from to : ℕ) (rest : List ℕ → Run Outcome) → from + groups (length text) * 3 ≡ to → to ≤ length dst
     → lentTo dst from to (sourceEncoded text) rest ≡ rest (put dst from (packedText Crate text))
 source-lent text dst from to rest e h =
     let part = midOf from (to - from) dst in
@@ -39,7 +39,7 @@ source-lent text dst from to rest e h =
     lent-to dst from to (packedText Crate text) (sourceEncoded text) rest (omega (arith, length-packed-text Crate text)) h
     (encode-is-source text part ∙ ap comes (crate-packs text part (min-eq-left room)))
 
-pub source-filled : {A : Type 0} (bytes buffer : List ℕ) (rest : List ℕ → Given A) → Below 256 bytes → length bytes % 3 ≡ 0 → length bytes / 3 * 4 ≡ length buffer
-    → filledBy (sourceDecoded bytes buffer) rest ≡ rest (unpackedText Crate bytes)
+pub source-filled : {A : Type 0} (bytes buffer : List ℕ) (rest : List ℕ → Run A) → Below 256 bytes → length bytes % 3 ≡ 0 → length bytes / 3 * 4 ≡ length buffer
+    → afterCall (sourceDecoded bytes buffer) rest ≡ rest (unpackedText Crate bytes)
 unfolding unpackedIn
-source-filled bytes buffer rest b e h = ap (λ (r : Run). filledBy r rest) (decode-is-source bytes buffer b ∙ ap comes (unpacks-full Crate bytes buffer e h))
+source-filled bytes buffer rest b e h = ap (λ (r : Run Outcome). afterCall r rest) (decode-is-source bytes buffer b ∙ ap comes (unpacks-full Crate bytes buffer e h))

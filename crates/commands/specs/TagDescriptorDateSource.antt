@@ -5,15 +5,15 @@ use mathlib.Core.Bool.{cond}
 use mathlib.Core.List.{List, [], _∷_}
 use lib.ListN.{length, replicate}
 use lib.Dec.{ltb}
-use Rattle.refusal.specs.Outcome.{ends, done, refuses}
-use Rattle.octets.specs.Source.{Run, comes, storeAt, lentTo, Given, gives, valueAt, sliceAt, filledBy}
+use Rattle.refusal.specs.Outcome.{Outcome, ends, done, refuses}
+use Rattle.octets.specs.Source.{Run, comes, storeAt, lentTo, readAt, sliceAt, afterCall}
 use Rattle.packed_string.specs.Source.{sourceEncoded, sourceDecoded}
 use Rattle.framing.specs.Payload.{carries}
-use Rattle.commands.specs.TagDescriptorDate.{Fields, reads, refusedRead}
+use Rattle.commands.specs.TagDescriptorDate.{Fields, readsFields, fieldsRefused}
 
 -- `encode_data`
-abbrev pub sourceRequested : List ℕ → List ℕ → ℕ → ℕ → ℕ → List ℕ → Run
-sourceRequested tag descriptor day month year buf =
+abbrev pub sourceFieldsRequested : List ℕ → List ℕ → ℕ → ℕ → ℕ → List ℕ → Run Outcome
+sourceFieldsRequested tag descriptor day month year buf =
     cond (ltb (length buf) 21) (comes (refuses 2 [] buf))
     (lentTo buf 0 6 (sourceEncoded tag) (λ buf₁.
     lentTo buf₁ 6 18 (sourceEncoded descriptor) (λ buf₂.
@@ -22,11 +22,11 @@ sourceRequested tag descriptor day month year buf =
     storeAt buf₄ 20 year (λ buf₅. comes (ends (done (21 ∷ [])) buf₅)))))))
 
 -- `decode_data`; where the Rust gives an error and nothing else, our fields are zeros
-abbrev pub sourceRead : List ℕ → Given Fields
+abbrev pub sourceRead : List ℕ → Run Fields
 sourceRead «data» =
-    cond (ltb (length «data») 21) (gives (refusedRead 3 []))
-    (sliceAt «data» 0 6 (λ part. filledBy (sourceDecoded part (replicate 8 0x20)) (λ tag.
-    sliceAt «data» 6 18 (λ part₁. filledBy (sourceDecoded part₁ (replicate 16 0x20)) (λ descriptor.
-    valueAt «data» 18 (λ day.
-    valueAt «data» 19 (λ month.
-    valueAt «data» 20 (λ year. gives (reads carries tag descriptor day month year)))))))))
+    cond (ltb (length «data») 21) (comes (fieldsRefused 3 []))
+    (sliceAt «data» 0 6 (λ part. afterCall (sourceDecoded part (replicate 8 0x20)) (λ tag.
+    sliceAt «data» 6 18 (λ part₁. afterCall (sourceDecoded part₁ (replicate 16 0x20)) (λ descriptor.
+    readAt «data» 18 (λ day.
+    readAt «data» 19 (λ month.
+    readAt «data» 20 (λ year. comes (readsFields carries tag descriptor day month year)))))))))

@@ -6,15 +6,15 @@ use mathlib.Core.Bool.{cond}
 use mathlib.Core.List.{List, [], _∷_}
 use lib.ListN.{length, replicate}
 use lib.Dec.{ltb}
-use Rattle.refusal.specs.Outcome.{ends, done, refuses}
-use Rattle.octets.specs.Source.{Run, comes, lentTo, Given, halts, gives, filledBy}
+use Rattle.refusal.specs.Outcome.{Outcome, ends, done, refuses}
+use Rattle.octets.specs.Source.{Run, comes, lentTo, stops, afterCall}
 use Rattle.packed_string.specs.Source.{sourceEncoded, sourceDecoded}
-use Rattle.commands.specs.Identity.{Identified, identified, refused}
+use Rattle.commands.specs.Identity.{Identified, identified, unidentified}
 use Rattle.commands.specs.IdentitySource.{sourceIdentity}
 
 -- `encode_data`
-abbrev pub sourceRequested : List ℕ → List ℕ → Run
-sourceRequested tag buf =
+abbrev pub sourceTagRequested : List ℕ → List ℕ → Run Outcome
+sourceTagRequested tag buf =
     cond (ltb (length buf) 6) (comes (refuses 2 [] buf)) (lentTo buf 0 6 (sourceEncoded tag) (λ buf₁. comes (ends (done (6 ∷ [])) buf₁)))
 
 -- the response is the identity's ten fields, each copied; an error is passed on by `?`
@@ -31,16 +31,16 @@ copied (identified id) = identified record {
   flags = id .flags;
   «device_id» = id .«device_id»;
 }
-copied (refused number values) = refused number values
+copied (unidentified number values) = unidentified number values
 
 -- `decode_data`
-abbrev pub passedUp : Given Identified → Given Identified
-passedUp halts = halts
-passedUp (gives read) = gives (copied read)
+abbrev pub passedUp : Run Identified → Run Identified
+passedUp stops = stops
+passedUp (comes read) = comes (copied read)
 
-abbrev pub sourceResponse : List ℕ → Given Identified
+abbrev pub sourceResponse : List ℕ → Run Identified
 sourceResponse «data» = passedUp (sourceIdentity «data»)
 
 -- `decode_tag`
-abbrev pub sourceTag : List ℕ → Given (List ℕ)
-sourceTag packed = filledBy (sourceDecoded packed (replicate 8 0x20)) gives
+abbrev pub sourceTag : List ℕ → Run (List ℕ)
+sourceTag packed = afterCall (sourceDecoded packed (replicate 8 0x20)) comes

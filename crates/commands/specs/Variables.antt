@@ -8,14 +8,14 @@ use Rattle.refusal.specs.Outcome.{Outcome, wrote, refuses}
 use Rattle.octets.specs.Digits.{digits, fromDigits}
 use Rattle.packed_string.specs.declared.text_group.Mode.{Mode}
 use Rattle.packed_string.specs.declared.text_group.Mode.the-variants.{Crate, Standard}
-use Rattle.framing.specs.Payload.{Judgement, carries, refused, judgementOf}
+use Rattle.framing.specs.Payload.{Judgement, carries, withheld, judgementOf}
 use Rattle.commands.specs.Worth.{floatOf}
 use Rattle.commands.specs.declared.read_device_vars.DeviceVariable.{DeviceVariable}
 use Rattle.commands.specs.declared.read_device_vars.ReadDeviceVarsResponse.{ReadDeviceVarsResponse}
 
 -- The request is 0 to 8 codes: more get 1, and after that a buffer with fewer bytes than codes gets 2.
-unfoldable pub requested : List ℕ → List ℕ → Outcome
-requested codes buffer =
+unfoldable pub codesRequested : List ℕ → List ℕ → Outcome
+codesRequested codes buffer =
     cond (ltb 8 (length codes)) (refuses 1 [] buffer)
     (cond (ltb (length buffer) (length codes)) (refuses 2 [] buffer)
     (wrote codes buffer))
@@ -56,22 +56,22 @@ noVariable = variable 0 0 0 0 0
 
 -- what reading a response comes to: carried or refused, how many variables, and eight of them
 pub data Variables : Type 0 where
-  reads : Judgement → ℕ → List DeviceVariable → Variables
+  readsVariables : Judgement → ℕ → List DeviceVariable → Variables
 
 abbrev pub variablesOf : ReadDeviceVarsResponse → Variables
-variablesOf r = reads (judgementOf (r .verdict)) (r .count) (r .variables)
+variablesOf r = readsVariables (judgementOf (r .verdict)) (r .count) (r .variables)
 
 abbrev pub groupsRead : List ℕ → Variables
-groupsRead bs = let n = groupsOf (length bs) in reads carries n (firstVariables bs n ++ replicate (8 - n) noVariable)
+groupsRead bs = let n = groupsOf (length bs) in readsVariables carries n (firstVariables bs n ++ replicate (8 - n) noVariable)
 
-abbrev pub nothingRead : Judgement → Variables
-nothingRead judgement = reads judgement 0 (replicate 8 noVariable)
+abbrev pub noVariablesRead : Judgement → Variables
+noVariablesRead judgement = readsVariables judgement 0 (replicate 8 noVariable)
 
-abbrev pub refusedRead : ℕ → List ℕ → Variables
-refusedRead number values = nothingRead (refused number values)
+abbrev pub variablesRefused : ℕ → List ℕ → Variables
+variablesRefused number values = noVariablesRead (withheld number values)
 
 -- In the Rust's reading the groups begin at the first byte, and nothing is refused. In the standard one they begin behind a byte of
 -- extended status, and a payload that has not even this byte is refused with 3.
 unfoldable pub variablesRead : Mode → List ℕ → Variables
 variablesRead Crate bs = groupsRead bs
-variablesRead Standard bs = cond (ltb (length bs) 1) (refusedRead 3 []) (groupsRead (drop 1 bs))
+variablesRead Standard bs = cond (ltb (length bs) 1) (variablesRefused 3 []) (groupsRead (drop 1 bs))

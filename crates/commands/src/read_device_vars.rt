@@ -2,6 +2,7 @@
 // standard one (ADDED), and the response straight from a frame.
 use crate::reading::Reading;
 use crate::reading::value_of;
+use framing::Frame;
 use framing::PayloadVerdict;
 use framing::payload_part;
 use framing::typed_verdict;
@@ -17,8 +18,8 @@ ghost use Prim.Native.Nat.{_+_, _≤_};
 ghost use lib.ListN.{length};
 ghost use Rattle.refusal.specs.Outcome.{ends, replyOf};
 ghost use Rattle.commands.specs.Worth.{worthOf, worth};
-ghost use Rattle.framing.specs.Payload.{judgementOf, typed, passedOn};
-ghost use Rattle.commands.specs.Variables.{requested, variableAt, noVariable, groupsOf, variablesOf, nothingRead, refusedRead, groupsRead, variablesRead};
+ghost use Rattle.framing.specs.Payload.{judgementOf, typed, passedOn, typedReading};
+ghost use Rattle.commands.specs.Variables.{codesRequested, variableAt, noVariable, groupsOf, variablesOf, noVariablesRead, variablesRefused, groupsRead, variablesRead};
 
 // A response's groups are bounded by this, and a request's codes.
 pub const MAX_DEVICE_VARS: usize = 8;
@@ -52,7 +53,7 @@ impl DeviceVariable {
 
 // Writes the codes of the variables that are asked for.
 pub fn encode_data(slot_codes: &[u8], buf: &mut [u8]) -> Written
-    ensures { λ r. ⌜ ends (replyOf r) (now (buf .exit)) ≡ requested (now («slot_codes» .entry)) (now (buf .entry)) ⌝ }
+    ensures { λ r. ⌜ ends (replyOf r) (now (buf .exit)) ≡ codesRequested (now («slot_codes» .entry)) (now (buf .entry)) ⌝ }
 {
     if slot_codes.len() > MAX_DEVICE_VARS {
         return Written::Refused(Refusal::DataTooLong);
@@ -110,7 +111,7 @@ fn whole_groups(length: usize) -> usize
 }
 
 fn refused(verdict: PayloadVerdict) -> ReadDeviceVarsResponse
-    ensures { λ r. ⌜ variablesOf r ≡ nothingRead (judgementOf verdict) ⌝ }
+    ensures { λ r. ⌜ variablesOf r ≡ noVariablesRead (judgementOf verdict) ⌝ }
 {
     let none = no_variable();
     ReadDeviceVarsResponse {
@@ -161,11 +162,21 @@ pub fn read_frame(
     command: u8,
     data: &[u8],
 ) -> ReadDeviceVarsResponse
-    ensures { λ r. ⌜ variablesOf r ≡ passedOn (variablesRead mode) refusedRead (typed 9 «frame_type» command (now («data» .entry))) (now («data» .entry)) ⌝ }
+    ensures { λ r. ⌜ variablesOf r ≡ passedOn (variablesRead mode) variablesRefused (typed 9 «frame_type» command (now («data» .entry))) (now («data» .entry)) ⌝ }
 {
     let verdict = typed_verdict(READ_DEVICE_VARS_WITH_STATUS, frame_type, command, data);
     let PayloadVerdict::Carried = verdict else {
         return refused(verdict);
     };
     decode_data(mode, payload_part(frame_type, data))
+}
+
+// The same of a frame that a decoder found: its data are the first `length` bytes of its array.
+pub fn read_response(mode: Mode, frame: Frame) -> ReadDeviceVarsResponse
+    ensures { λ r. ⌜ variablesOf r ≡ typedReading (variablesRead mode) variablesRefused 9 frame ⌝ }
+{
+    let frame_type = frame.frame_type;
+    let data = frame.data;
+    let length = frame.length as usize;
+    read_frame(mode, frame_type, frame.command, &data[0..length])
 }

@@ -4,6 +4,7 @@ use crate::identity::DeviceIdentity;
 use crate::identity::IdentityRead;
 use crate::text_in_mode::decode_in;
 use crate::text_in_mode::encode_in;
+use framing::Frame;
 use framing::PayloadVerdict;
 use framing::payload_part;
 use framing::typed_verdict;
@@ -14,8 +15,8 @@ use types::FrameType;
 use types::consts::commands::READ_UNIQUE_ID_BY_TAG;
 ghost use mathlib.Core.Path.{_≡_};
 ghost use Rattle.refusal.specs.Outcome.{ends, replyOf};
-ghost use Rattle.framing.specs.Payload.{typed, passedOn};
-ghost use Rattle.commands.specs.Identity.{identifiedOf, identity, refused};
+ghost use Rattle.framing.specs.Payload.{typed, passedOn, typedReading};
+ghost use Rattle.commands.specs.Identity.{identifiedOf, identity, unidentified};
 ghost use Rattle.commands.specs.Modes.{unpackedText};
 ghost use Rattle.commands.specs.Tag.{tagRequested};
 
@@ -46,11 +47,21 @@ pub fn decode_tag(mode: Mode, packed: [u8; 6]) -> [u8; 8]
 
 // The identity that a frame carries, or why it carries none.
 pub fn read_frame(frame_type: FrameType, command: u8, data: &[u8]) -> IdentityRead
-    ensures { λ r. ⌜ identifiedOf r ≡ passedOn identity refused (typed 11 «frame_type» command (now («data» .entry))) (now («data» .entry)) ⌝ }
+    ensures { λ r. ⌜ identifiedOf r ≡ passedOn identity unidentified (typed 11 «frame_type» command (now («data» .entry))) (now («data» .entry)) ⌝ }
 {
     let verdict = typed_verdict(READ_UNIQUE_ID_BY_TAG, frame_type, command, data);
     let PayloadVerdict::Refused(refusal) = verdict else {
         return DeviceIdentity::decode(payload_part(frame_type, data));
     };
     IdentityRead::Refused(refusal)
+}
+
+// The same of a frame that a decoder found: its data are the first `length` bytes of its array.
+pub fn read_response(frame: Frame) -> IdentityRead
+    ensures { λ r. ⌜ identifiedOf r ≡ typedReading identity unidentified 11 frame ⌝ }
+{
+    let frame_type = frame.frame_type;
+    let data = frame.data;
+    let length = frame.length as usize;
+    read_frame(frame_type, frame.command, &data[0..length])
 }

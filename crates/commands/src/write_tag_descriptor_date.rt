@@ -3,6 +3,7 @@
 use crate::text_in_mode::bad_place_in;
 use crate::text_in_mode::decode_in;
 use crate::text_in_mode::encode_in;
+use framing::Frame;
 use framing::PayloadVerdict;
 use framing::payload_part;
 use framing::typed_verdict;
@@ -17,9 +18,9 @@ ghost use Prim.Native.Nat.{_≤_};
 ghost use lib.ListN.{length};
 ghost use Rattle.refusal.specs.Outcome.{ends, replyOf};
 ghost use Rattle.octets.specs.Put.{put};
-ghost use Rattle.framing.specs.Payload.{judgementOf, typed, passedOn};
+ghost use Rattle.framing.specs.Payload.{judgementOf, typed, passedOn, typedReading};
 ghost use Rattle.commands.specs.Modes.{badIn};
-ghost use Rattle.commands.specs.TagDescriptorDate.{layout, requested, fieldsOf, nothingRead, refusedRead, fieldsRead};
+ghost use Rattle.commands.specs.TagDescriptorDate.{tagDescriptorDateLayout, tagDescriptorDateRequested, fieldsOf, noFieldsRead, fieldsRefused, fieldsRead};
 
 // Beside a refusal every byte is zero.
 pub struct WriteTagDescriptorDateResponse {
@@ -52,7 +53,7 @@ fn write_layout(
     buf: &mut [u8],
 )
     requires { ⌜ (21 ≤ length (now buf)) × (24 ≤ badIn mode (tag ++ descriptor)) ⌝ }
-    ensures { λ _. ⌜ now (buf .exit) ≡ put (now (buf .entry)) 0 (layout mode tag descriptor day month year) ⌝ }
+    ensures { λ _. ⌜ now (buf .exit) ≡ put (now (buf .entry)) 0 (tagDescriptorDateLayout mode tag descriptor day month year) ⌝ }
 {
     encode_in(mode, &tag, &mut buf[0..6]);
     encode_in(mode, &descriptor, &mut buf[6..18]);
@@ -71,7 +72,7 @@ pub fn encode_data(
     year: u8,
     buf: &mut [u8],
 ) -> Written
-    ensures { λ r. ⌜ ends (replyOf r) (now (buf .exit)) ≡ requested mode tag descriptor day month year (now (buf .entry)) ⌝ }
+    ensures { λ r. ⌜ ends (replyOf r) (now (buf .exit)) ≡ tagDescriptorDateRequested mode tag descriptor day month year (now (buf .entry)) ⌝ }
 {
     if buf.len() < 21 {
         return Written::Refused(Refusal::BufferTooSmall);
@@ -85,7 +86,7 @@ pub fn encode_data(
 }
 
 fn refused(verdict: PayloadVerdict) -> WriteTagDescriptorDateResponse
-    ensures { λ r. ⌜ fieldsOf r ≡ nothingRead (judgementOf verdict) ⌝ }
+    ensures { λ r. ⌜ fieldsOf r ≡ noFieldsRead (judgementOf verdict) ⌝ }
 {
     WriteTagDescriptorDateResponse {
         verdict,
@@ -125,11 +126,21 @@ pub fn read_frame(
     command: u8,
     data: &[u8],
 ) -> WriteTagDescriptorDateResponse
-    ensures { λ r. ⌜ fieldsOf r ≡ passedOn (fieldsRead mode) refusedRead (typed 18 «frame_type» command (now («data» .entry))) (now («data» .entry)) ⌝ }
+    ensures { λ r. ⌜ fieldsOf r ≡ passedOn (fieldsRead mode) fieldsRefused (typed 18 «frame_type» command (now («data» .entry))) (now («data» .entry)) ⌝ }
 {
     let verdict = typed_verdict(WRITE_TAG_DESCRIPTOR_DATE, frame_type, command, data);
     let PayloadVerdict::Carried = verdict else {
         return refused(verdict);
     };
     decode_data(mode, payload_part(frame_type, data))
+}
+
+// The same of a frame that a decoder found: its data are the first `length` bytes of its array.
+pub fn read_response(mode: Mode, frame: Frame) -> WriteTagDescriptorDateResponse
+    ensures { λ r. ⌜ fieldsOf r ≡ typedReading (fieldsRead mode) fieldsRefused 18 frame ⌝ }
+{
+    let frame_type = frame.frame_type;
+    let data = frame.data;
+    let length = frame.length as usize;
+    read_frame(mode, frame_type, frame.command, &data[0..length])
 }

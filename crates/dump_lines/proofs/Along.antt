@@ -23,14 +23,14 @@ use Rattle.line.specs.Events.{silence}
 use Rattle.line.specs.machine.Step.{movedAt, storedAt}
 use Rattle.line.specs.machine.Feed.{holding, fresh, settledBy, settled, stepped}
 use Rattle.dump_lines.specs.Text.{lineMax}
-use Rattle.dump_lines.specs.Lines.{totals, next, told, after, printed, count, taking, taken}
+use Rattle.dump_lines.specs.Lines.{totalsOf, nextDump, told, after, printed, count, taking, taken}
 use Rattle.dump_lines.specs.declared.Dump.{Dump}
 use Rattle.dump_lines.specs.declared.Taken.{Taken}
 use Rattle.line.specs.machine.Feed.{eventOf}
-use Rattle.dump_lines.specs.Writing.{Writes}
+use Rattle.dump_lines.specs.Code.{Writes}
 use Rattle.dump_lines.proofs.Words.{unwritten, joined, reworded}
 
-pub same-totals : {b f r b′ f′ r′ : ℕ} → b ≡ b′ → f ≡ f′ → r ≡ r′ → totals b f r ≡ totals b′ f′ r′
+pub same-totals : {b f r b′ f′ r′ : ℕ} → b ≡ b′ → f ≡ f′ → r ≡ r′ → totalsOf b f r ≡ totalsOf b′ f′ r′
 same-totals p q r = rw (p, q, r)
 
 -- what the step gave, with what it ended: a piece that goes on is silence, and any other leaves a new decoder and its event
@@ -51,16 +51,16 @@ module _ (s : State) (bs : List ℕ) (b : ℕ) {m : Moved} {kept : List ℕ} (p 
 -- one run behind another
 pub after-append : (d : Dump) (xs ys : List ℕ) → after d (xs ++ ys) ≡ after (after d xs) ys
 after-append d [] ys = refl
-after-append d (x ∷ xs) ys = after-append (next d x) xs ys
+after-append d (x ∷ xs) ys = after-append (nextDump d x) xs ys
 
 pub printed-append : (d : Dump) (xs ys : List ℕ) → printed d (xs ++ ys) ≡ printed d xs ++ printed (after d xs) ys
 printed-append d [] ys = refl
 printed-append d (x ∷ xs) ys =
-    ap (λ (t : List ℕ). told d x ++ t) (printed-append (next d x) xs ys) ∙ sym (append-assoc (told d x) (printed (next d x) xs) (printed (after (next d x) xs) ys))
+    ap (λ (t : List ℕ). told d x ++ t) (printed-append (nextDump d x) xs ys) ∙ sym (append-assoc (told d x) (printed (nextDump d x) xs) (printed (after (nextDump d x) xs) ys))
 
 -- one byte more
 module _ (d : Dump) (src : List ℕ) (n : ℕ) (h : n < length src) where
-  pub after-more : after d (take (suc n) src) ≡ next (after d (take n src)) (getD src n 0)
+  pub after-more : after d (take (suc n) src) ≡ nextDump (after d (take n src)) (getD src n 0)
   after-more = ap (after d) (take-suc src n 0 h) ∙ after-append d (take n src) (getD src n 0 ∷ [])
 
   pub printed-more : printed d (take (suc n) src) ≡ printed d (take n src) ++ told (after d (take n src)) (getD src n 0)
@@ -70,7 +70,7 @@ module _ (d : Dump) (src : List ℕ) (n : ℕ) (h : n < length src) where
       ∙ ap (λ (t : List ℕ). printed d (take n src) ++ t) (append-nil (told (after d (take n src)) (getD src n 0)))
 
   -- it is taken where the longest line fits
-  pub count-more : (e : Dump) (room : ℕ) → lineMax ≤ room → count e (drop n src) room ≡ suc (count (next e (getD src n 0)) (drop (suc n) src) (room - length (told e (getD src n 0))))
+  pub count-more : (e : Dump) (room : ℕ) → lineMax ≤ room → count e (drop n src) room ≡ suc (count (nextDump e (getD src n 0)) (drop (suc n) src) (room - length (told e (getD src n 0))))
   count-more e room k = rw (drop-cons src n 0 h, le-ltb room lineMax k)
 
 -- and none is taken where the bytes are at an end or it does not fit
@@ -104,19 +104,19 @@ took d used written = record { dump = d; used = used; written = written }
 
 module _ {d₀ d : Dump} {src out₀ out : List ℕ} {used written : ℕ} (t : Took d₀ src out₀ d used written out) where
   -- that the line had room shows in the length of the buffer, which no call changes
-  pub took-more : {e : Dump} {behind : ℕ} {last : List ℕ} → used < length src → written + lineMax ≤ length out → e ≡ next d (getD src used 0) → behind ≡ written + length (told d (getD src used 0)) → last ≡ put out written (told d (getD src used 0)) → length last ≡ length out → Took d₀ src out₀ e (used + 1) behind last
+  pub took-more : {e : Dump} {behind : ℕ} {last : List ℕ} → used < length src → written + lineMax ≤ length out → e ≡ nextDump d (getD src used 0) → behind ≡ written + length (told d (getD src used 0)) → last ≡ put out written (told d (getD src used 0)) → length last ≡ length out → Took d₀ src out₀ e (used + 1) behind last
   took-more {e} {behind} {last} h k n p q same =
       let b : ℕ = getD src used 0 in
       let line : List ℕ = told d b in
       let room : ℕ = length out₀ - written in
       let w : Writes out written line behind last = record { room = put-room out written line (omega arith) (sym (ap length q) ∙ same); place = p; content = q } in
       let gap : room - length line ≡ length out₀ - behind = omega arith in
-      let left : count (next d b) (drop (suc used) src) (room - length line) ≡ count e (drop (used + 1) src) (length out₀ - behind) =
+      let left : count (nextDump d b) (drop (suc used) src) (room - length line) ≡ count e (drop (used + 1) src) (length out₀ - behind) =
       ap (λ (x : Dump). count x (drop (suc used) src) (room - length line)) (sym n) ∙ ap₂ (λ (i r : ℕ). count e (drop i src) r) (sym (add-one used)) gap in
       record {
         within = omega arith;
         sized = same ∙ t .sized;
-        dumped = n ∙ ap (λ (x : Dump). next x b) (t .dumped) ∙ sym (after-more d₀ src used h) ∙ ap (λ (i : ℕ). after d₀ (take i src)) (sym (add-one used));
+        dumped = n ∙ ap (λ (x : Dump). nextDump x b) (t .dumped) ∙ sym (after-more d₀ src used h) ∙ ap (λ (i : ℕ). after d₀ (take i src)) (sym (add-one used));
         lines =
             reworded (ap (λ (x : Dump). printed d₀ (take used src) ++ told x b) (t .dumped) ∙ sym (printed-more d₀ src used h) ∙ ap (λ (i : ℕ). printed d₀ (take i src)) (sym (add-one used)))
             (joined (t .lines) w);
@@ -140,9 +140,9 @@ module _ {d₀ d : Dump} {src out₀ out : List ℕ} {used written : ℕ} (t : T
 -- lies within the buffer
 count-within : (d : Dump) (src : List ℕ) (room : ℕ) → count d src room ≤ length src
 count-within d [] room = omega arith
-count-within d (b ∷ bs) room = by (ltb room lineMax) (count-within (next d b) bs (room - length (told d b)))
+count-within d (b ∷ bs) room = by (ltb room lineMax) (count-within (nextDump d b) bs (room - length (told d b)))
   where
-    by : (y : Bool) → count (next d b) bs (room - length (told d b)) ≤ length bs → cond y 0 (suc (count (next d b) bs (room - length (told d b)))) ≤ suc (length bs)
+    by : (y : Bool) → count (nextDump d b) bs (room - length (told d b)) ≤ length bs → cond y 0 (suc (count (nextDump d b) bs (room - length (told d b)))) ≤ suc (length bs)
     by true h = omega arith
     by false h = omega arith
 

@@ -24,7 +24,7 @@ module _ (place : ℕ) (small : place < 2 ^ 64) where
   pub frame-longest : (w : Wire) → Fits w → w .command < 256 → length (frameLine place w) ≤ lineMax
   unfolding frameLine
   frame-longest w f k =
-      simp length-append (omega (arith, length-decimal place small, address-longest (w .long) (w .address), length-decimal-byte (w .command) k, data-longest (w .payload) (f .counted)))
+      simp length-append (omega (arith, length-decimal place small, address-longest (w .long) (w .address), length-decimal-byte (w .command) k, data-longest (w .payload) (f .countFits)))
 
   pub delimiter-longest : (b : ℕ) → length (refusalLine place (InvalidDelimiter b)) ≤ lineMax
   unfolding refusalLine

@@ -6,26 +6,26 @@ use mathlib.Core.List.{List, [], _∷_, _++_, map, append-assoc}
 use lib.ListN.{length, length-append}
 use borrow.Author.Tests.{lt-ltb}
 use Rattle.line.specs.Pieces.{Piece, noise, shortRun, badDelimiter, frame, badCheck, front, bytesOf, last, joined, Bytes}
-use Rattle.line.specs.Events.{Event, silence, found, refused, verdict, silent, saidBy, dictated, gather, framesIn, refusalsIn}
+use Rattle.line.specs.Events.{Event, silence, found, rejected, verdict, silent, saidBy, dictated, gather, framesIn, refusalsIn}
 use Rattle.line.specs.Runs.{says}
 use Rattle.line.specs.machine.Feed.{stepped}
 use Rattle.line.proofs.machine.Demand.{stepped-demand}
 use Rattle.dump_lines.specs.Text.{lineOf}
-use Rattle.dump_lines.specs.Lines.{largest, more, totals, counted, heldOf, fresh, next, told, after, printed, taking, lastLine}
-use Rattle.dump_lines.specs.Printed.{pieceLines, framePieces, refusedPieces, Printed, Call, takenBy, writtenBy, leftBy}
+use Rattle.dump_lines.specs.Lines.{largest, more, totalsOf, totalled, heldByDump, freshDump, nextDump, told, after, printed, taking, lastLine}
+use Rattle.dump_lines.specs.Printed.{pieceLines, framePieces, refusedPieces, Printed, TakeCall, takenBy, writtenBy, leftBy}
 use Rattle.dump_lines.specs.declared.Totals.{Totals}
 use Rattle.dump_lines.specs.declared.Dump.{Dump}
 use Rattle.dump_lines.proofs.Along.{same-totals, after-append, printed-append}
 
 -- ---- reads of any size, buffers of any room
 
-pub calls-print : (d : Dump) (cs : List Call) → writtenBy d cs ≡ printed d (takenBy d cs)
+pub calls-print : (d : Dump) (cs : List TakeCall) → writtenBy d cs ≡ printed d (takenBy d cs)
 calls-print d [] = refl
 calls-print d (c ∷ cs) =
     let part : List ℕ = taking d (c .src) (c .room) in
     ap (λ (t : List ℕ). printed d part ++ t) (calls-print (after d part) cs) ∙ sym (printed-append d part (takenBy (after d part) cs))
 
-pub calls-leave : (d : Dump) (cs : List Call) → leftBy d cs ≡ after d (takenBy d cs)
+pub calls-leave : (d : Dump) (cs : List TakeCall) → leftBy d cs ≡ after d (takenBy d cs)
 calls-leave d [] = refl
 calls-leave d (c ∷ cs) =
     let part : List ℕ = taking d (c .src) (c .room) in
@@ -39,23 +39,23 @@ linesOf at (e ∷ es) = lineOf at e ++ linesOf (more at) es
 
 abbrev tally : Totals → List Event → Totals
 tally t [] = t
-tally t (e ∷ es) = tally (counted t e) es
+tally t (e ∷ es) = tally (totalled t e) es
 
-counted-bytes : (t : Totals) (e : Event) → counted t e .bytes ≡ more (t .bytes)
+counted-bytes : (t : Totals) (e : Event) → totalled t e .bytes ≡ more (t .bytes)
 counted-bytes t silence = refl
 counted-bytes t (found w) = refl
-counted-bytes t (refused r) = refl
+counted-bytes t (rejected r) = refl
 
-printed-events : (d : Dump) (run : List ℕ) → printed d run ≡ linesOf (d .totals .bytes) (says stepped (heldOf d) run)
+printed-events : (d : Dump) (run : List ℕ) → printed d run ≡ linesOf (d .totals .bytes) (says stepped (heldByDump d) run)
 printed-events d [] = refl
 printed-events d (b ∷ bs) =
     ap (λ (t : List ℕ). told d b ++ t)
-    (printed-events (next d b) bs
-    ∙ ap (λ (at : ℕ). linesOf at (says stepped (heldOf (next d b)) bs)) (counted-bytes (d .totals) (stepped (heldOf d) b .1)))
+    (printed-events (nextDump d b) bs
+    ∙ ap (λ (at : ℕ). linesOf at (says stepped (heldByDump (nextDump d b)) bs)) (counted-bytes (d .totals) (stepped (heldByDump d) b .1)))
 
-after-events : (d : Dump) (run : List ℕ) → after d run .totals ≡ tally (d .totals) (says stepped (heldOf d) run)
+after-events : (d : Dump) (run : List ℕ) → after d run .totals ≡ tally (d .totals) (says stepped (heldByDump d) run)
 after-events d [] = refl
-after-events d (b ∷ bs) = after-events (next d b) bs
+after-events d (b ∷ bs) = after-events (nextDump d b) bs
 
 -- below its largest a counter counts
 more-is : (n : ℕ) → n < largest → more n ≡ n + 1
@@ -83,22 +83,22 @@ lines-dictated at (p ∷ ps) t h =
     ∙ ap (λ (xs : List ℕ). lineOf k (verdict p) ++ xs) (lines-dictated (at + length (bytesOf p)) ps t (omega arith))
 
 -- no counter comes to its largest where the bytes do not
-tally-counts : (b f r : ℕ) (es : List Event) → f ≤ b → r ≤ b → b + length es ≤ largest → tally (totals b f r) es ≡ totals (b + length es) (f + length (gather framesIn es)) (r + length (gather refusalsIn es))
+tally-counts : (b f r : ℕ) (es : List Event) → f ≤ b → r ≤ b → b + length es ≤ largest → tally (totalsOf b f r) es ≡ totalsOf (b + length es) (f + length (gather framesIn es)) (r + length (gather refusalsIn es))
 tally-counts b f r [] hf hr h = same-totals (omega arith) (omega arith) (omega arith)
 tally-counts b f r (silence ∷ es) hf hr h =
-    ap (λ (n : ℕ). tally (totals n f r) es) (more-is b (omega arith)) ∙ tally-counts (b + 1) f r es (omega arith) (omega arith) (omega arith) ∙ same-totals (omega arith) refl refl
+    ap (λ (n : ℕ). tally (totalsOf n f r) es) (more-is b (omega arith)) ∙ tally-counts (b + 1) f r es (omega arith) (omega arith) (omega arith) ∙ same-totals (omega arith) refl refl
 tally-counts b f r (found w ∷ es) hf hr h =
-    ap₂ (λ (n m : ℕ). tally (totals n m r) es) (more-is b (omega arith)) (more-is f (omega arith))
+    ap₂ (λ (n m : ℕ). tally (totalsOf n m r) es) (more-is b (omega arith)) (more-is f (omega arith))
     ∙ tally-counts (b + 1) (f + 1) r es (omega arith) (omega arith) (omega arith)
     ∙ same-totals (omega arith) (omega arith) refl
-tally-counts b f r (refused x ∷ es) hf hr h =
-    ap₂ (λ (n m : ℕ). tally (totals n f m) es) (more-is b (omega arith)) (more-is r (omega arith))
+tally-counts b f r (rejected x ∷ es) hf hr h =
+    ap₂ (λ (n m : ℕ). tally (totalsOf n f m) es) (more-is b (omega arith)) (more-is r (omega arith))
     ∙ tally-counts (b + 1) f (r + 1) es (omega arith) (omega arith) (omega arith)
     ∙ same-totals (omega arith) refl (omega arith)
 
-length-says : (d : Dump) (run : List ℕ) → length (says stepped (heldOf d) run) ≡ length run
+length-says : (d : Dump) (run : List ℕ) → length (says stepped (heldByDump d) run) ≡ length run
 length-says d [] = refl
-length-says d (b ∷ bs) = omega (arith, length-says (next d b) bs)
+length-says d (b ∷ bs) = omega (arith, length-says (nextDump d b) bs)
 
 frames-counted : (ps : List Piece) → length (gather framesIn (map verdict ps)) ≡ framePieces ps
 frames-counted [] = refl
@@ -120,12 +120,12 @@ refusals-counted (badCheck n w c ∷ ps) = omega (arith, refusals-counted ps)
 pub printed-cut : (run : List ℕ) → Bytes run → length run < 2 ^ 64 → Printed run
 printed-cut run k h =
     let d = stepped-demand run k in
-    let es : List Event = says stepped (heldOf fresh) run in
-    let size : length es ≡ length run = length-says fresh run in
+    let es : List Event = says stepped (heldByDump freshDump) run in
+    let size : length es ≡ length run = length-says freshDump run in
     let parts : length run ≡ length (joined (d .pieces)) + length (d .rest) = ap length (d .cut .whole) ∙ length-append (joined (d .pieces)) (d .rest) in
-    let lines : printed fresh run ≡ pieceLines 0 (d .pieces) = printed-events fresh run ∙ ap (linesOf 0) (d .events) ∙ lines-dictated 0 (d .pieces) (d .rest) (omega arith) in
-    let counts : after fresh run .totals ≡ totals (length run) (framePieces (d .pieces)) (refusedPieces (d .pieces)) =
-    after-events fresh run
+    let lines : printed freshDump run ≡ pieceLines 0 (d .pieces) = printed-events freshDump run ∙ ap (linesOf 0) (d .events) ∙ lines-dictated 0 (d .pieces) (d .rest) (omega arith) in
+    let counts : after freshDump run .totals ≡ totalsOf (length run) (framePieces (d .pieces)) (refusedPieces (d .pieces)) =
+    after-events freshDump run
     ∙ tally-counts 0 0 0 es (omega arith) (omega arith) (omega arith)
     ∙ same-totals (omega arith) (omega (arith, ap length (d .frames), frames-counted (d .pieces))) (omega (arith, ap length (d .refusals), refusals-counted (d .pieces))) in
     record {
@@ -140,9 +140,9 @@ printed-cut run k h =
 
 -- and so of calls of `take` on a new dump, whatever they are handed: what they write is the lines of the cut of the bytes that they take,
 -- and the totals that they leave are counted there
-pub calls-cut : (cs : List Call) (k : Bytes (takenBy fresh cs)) (h : length (takenBy fresh cs) < 2 ^ 64)
-    → (writtenBy fresh cs ≡ pieceLines 0 (printed-cut (takenBy fresh cs) k h .pieces))
-    × (leftBy fresh cs .totals ≡ totals (length (takenBy fresh cs)) (framePieces (printed-cut (takenBy fresh cs) k h .pieces)) (refusedPieces (printed-cut (takenBy fresh cs) k h .pieces)))
+pub calls-cut : (cs : List TakeCall) (k : Bytes (takenBy freshDump cs)) (h : length (takenBy freshDump cs) < 2 ^ 64)
+    → (writtenBy freshDump cs ≡ pieceLines 0 (printed-cut (takenBy freshDump cs) k h .pieces))
+    × (leftBy freshDump cs .totals ≡ totalsOf (length (takenBy freshDump cs)) (framePieces (printed-cut (takenBy freshDump cs) k h .pieces)) (refusedPieces (printed-cut (takenBy freshDump cs) k h .pieces)))
 calls-cut cs k h =
-    let p = printed-cut (takenBy fresh cs) k h in
-    (calls-print fresh cs ∙ p .lines, ap (λ (d : Dump). d .totals) (calls-leave fresh cs) ∙ p .counts)
+    let p = printed-cut (takenBy freshDump cs) k h in
+    (calls-print freshDump cs ∙ p .lines, ap (λ (d : Dump). d .totals) (calls-leave freshDump cs) ∙ p .counts)

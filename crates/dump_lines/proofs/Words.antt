@@ -10,7 +10,8 @@ use Rattle.refusal.specs.Outcome.{done, ends, wrote, refuses}
 use Rattle.octets.specs.Put.{put}
 use Rattle.octets.proofs.Put.{put-nil, length-put, put-put, put-snoc}
 use Rattle.dump_lines.specs.Text.{endLine, lineMax}
-use Rattle.dump_lines.specs.Writing.{endWritten, Writes}
+use Rattle.dump_lines.specs.Writing.{endWritten}
+use Rattle.dump_lines.specs.Code.{Writes}
 
 -- the mark is stored right behind the word
 pub marked : (l : List ℕ) (at : ℕ) (word : List ℕ) (mark i : ℕ) {b : List ℕ} → b ≡ put l at word → i ≡ at + length word → at + length word < length l → Writes l at (word ++ (mark ∷ [])) (i + 1) (set b i mark)

@@ -3,3 +3,4 @@ pub mod Text
 pub mod Writing
 pub mod Lines
 pub mod Printed
+pub mod Code

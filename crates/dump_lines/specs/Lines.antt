@@ -4,7 +4,7 @@ use mathlib.Core.Bool.{cond}
 use mathlib.Core.List.{List, [], _∷_, _++_}
 use lib.Dec.{ltb}
 use lib.ListN.{length, take}
-use Rattle.line.specs.Events.{Event, silence, found, refused}
+use Rattle.line.specs.Events.{Event, silence, found, rejected}
 use Rattle.line.specs.declared.state.State.{State}
 use Rattle.line.specs.machine.Feed.{Held, holding, stepped}
 use Rattle.line.specs.machine.Feed.{fresh as freshHeld}
@@ -20,14 +20,14 @@ largest = 18446744073709551615
 abbrev pub more : ℕ → ℕ
 more n = cond (ltb n largest) (n + 1) n
 
-abbrev pub totals : ℕ → ℕ → ℕ → Totals
-totals bytes frames refusals = record { bytes = bytes; frames = frames; refusals = refusals }
+abbrev pub totalsOf : ℕ → ℕ → ℕ → Totals
+totalsOf bytes frames refusals = record { bytes = bytes; frames = frames; refusals = refusals }
 
 -- one byte more, and what was told at it
-abbrev pub counted : Totals → Event → Totals
-counted t silence = totals (more (t .bytes)) (t .frames) (t .refusals)
-counted t (found w) = totals (more (t .bytes)) (more (t .frames)) (t .refusals)
-counted t (refused r) = totals (more (t .bytes)) (t .frames) (more (t .refusals))
+abbrev pub totalled : Totals → Event → Totals
+totalled t silence = totalsOf (more (t .bytes)) (t .frames) (t .refusals)
+totalled t (found w) = totalsOf (more (t .bytes)) (more (t .frames)) (t .refusals)
+totalled t (rejected r) = totalsOf (more (t .bytes)) (t .frames) (more (t .refusals))
 
 abbrev pub dump : State → List ℕ → Totals → Dump
 dump s bs t = record { state = s; bytes = bs; totals = t }
@@ -35,27 +35,27 @@ dump s bs t = record { state = s; bytes = bs; totals = t }
 abbrev pub dumpOf : Held → Totals → Dump
 dumpOf h t = dump (h .state) (h .bytes) t
 
-abbrev pub heldOf : Dump → Held
-heldOf d = holding (d .state) (d .bytes)
+abbrev pub heldByDump : Dump → Held
+heldByDump d = holding (d .state) (d .bytes)
 
-abbrev pub fresh : Dump
-fresh = dumpOf freshHeld (totals 0 0 0)
+abbrev pub freshDump : Dump
+freshDump = dumpOf freshHeld (totalsOf 0 0 0)
 
 -- one byte: the dump behind it, and the line that is printed at it. Its place is the number of bytes before it
-abbrev pub next : Dump → ℕ → Dump
-next d b = dumpOf (stepped (heldOf d) b .0) (counted (d .totals) (stepped (heldOf d) b .1))
+abbrev pub nextDump : Dump → ℕ → Dump
+nextDump d b = dumpOf (stepped (heldByDump d) b .0) (totalled (d .totals) (stepped (heldByDump d) b .1))
 
 abbrev pub told : Dump → ℕ → List ℕ
-told d b = lineOf (d .totals .bytes) (stepped (heldOf d) b .1)
+told d b = lineOf (d .totals .bytes) (stepped (heldByDump d) b .1)
 
 -- the same along a run
 abbrev pub after : Dump → List ℕ → Dump
 after d [] = d
-after d (b ∷ bs) = after (next d b) bs
+after d (b ∷ bs) = after (nextDump d b) bs
 
 abbrev pub printed : Dump → List ℕ → List ℕ
 printed d [] = []
-printed d (b ∷ bs) = told d b ++ printed (next d b) bs
+printed d (b ∷ bs) = told d b ++ printed (nextDump d b) bs
 
 -- and the line behind the last byte
 abbrev pub lastLine : Totals → List ℕ
@@ -64,7 +64,7 @@ lastLine t = endLine (t .bytes) (t .frames) (t .refusals)
 -- bytes are taken as long as the room that is left would hold the longest line: how many, and which
 abbrev pub count : Dump → List ℕ → ℕ → ℕ
 count d [] room = 0
-count d (b ∷ bs) room = cond (ltb room lineMax) 0 (suc (count (next d b) bs (room - length (told d b))))
+count d (b ∷ bs) room = cond (ltb room lineMax) 0 (suc (count (nextDump d b) bs (room - length (told d b))))
 
 abbrev pub taking : Dump → List ℕ → ℕ → List ℕ
 taking d src room = take (count d src room) src

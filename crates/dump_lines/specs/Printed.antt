@@ -6,7 +6,7 @@ use lib.ListN.{length}
 use Rattle.line.specs.Pieces.{Piece, noise, shortRun, badDelimiter, frame, badCheck, front, bytesOf, Cut}
 use Rattle.line.specs.Events.{verdict}
 use Rattle.dump_lines.specs.Text.{lineOf, endLine}
-use Rattle.dump_lines.specs.Lines.{totals, fresh, after, printed, lastLine, taking}
+use Rattle.dump_lines.specs.Lines.{totalsOf, freshDump, after, printed, lastLine, taking}
 use Rattle.dump_lines.specs.declared.Dump.{Dump}
 
 -- a piece has its line at the place of its last byte, the first piece beginning at place `at`. A tail is no piece and has none
@@ -37,24 +37,24 @@ pub record Printed (run : List ℕ) : Type 0 where
   pub rest : List ℕ
   pub cut : Cut run pieces rest
   pub only : (qs : List Piece) (u : List ℕ) → Cut run qs u → (pieces ≡ qs) × (rest ≡ u)
-  pub lines : printed fresh run ≡ pieceLines 0 pieces
-  pub counts : after fresh run .totals ≡ totals (length run) (framePieces pieces) (refusedPieces pieces)
-  pub text : printed fresh run ++ lastLine (after fresh run .totals) ≡ pieceLines 0 pieces ++ endLine (length run) (framePieces pieces) (refusedPieces pieces)
+  pub lines : printed freshDump run ≡ pieceLines 0 pieces
+  pub counts : after freshDump run .totals ≡ totalsOf (length run) (framePieces pieces) (refusedPieces pieces)
+  pub text : printed freshDump run ++ lastLine (after freshDump run .totals) ≡ pieceLines 0 pieces ++ endLine (length run) (framePieces pieces) (refusedPieces pieces)
 
 -- calls of `take`, each on the dump that the last one gave back: the bytes that a call is handed and the room that it is lent
-pub record Call : Type 0 where
+pub record TakeCall : Type 0 where
   pub src : List ℕ
   pub room : ℕ
 
 -- the bytes that the calls take, the lines that they write, and the dump behind them
-abbrev pub takenBy : Dump → List Call → List ℕ
+abbrev pub takenBy : Dump → List TakeCall → List ℕ
 takenBy d [] = []
 takenBy d (c ∷ cs) = taking d (c .src) (c .room) ++ takenBy (after d (taking d (c .src) (c .room))) cs
 
-abbrev pub writtenBy : Dump → List Call → List ℕ
+abbrev pub writtenBy : Dump → List TakeCall → List ℕ
 writtenBy d [] = []
 writtenBy d (c ∷ cs) = printed d (taking d (c .src) (c .room)) ++ writtenBy (after d (taking d (c .src) (c .room))) cs
 
-abbrev pub leftBy : Dump → List Call → Dump
+abbrev pub leftBy : Dump → List TakeCall → Dump
 leftBy d [] = d
 leftBy d (c ∷ cs) = leftBy (after d (taking d (c .src) (c .room))) cs

@@ -10,7 +10,7 @@ use Rattle.types.specs.declared.delimiter.FrameType.{FrameType}
 use Rattle.types.specs.declared.delimiter.FrameType.the-variants.{Request, Response, Burst}
 use Rattle.types.specs.Address.{readAddress, addressBytes}
 use Rattle.line.specs.Layout.{Wire}
-use Rattle.line.specs.Events.{Event, silence, found, refused}
+use Rattle.line.specs.Events.{Event, silence, found, rejected}
 
 -- a line is words with a space between two, and a newline at its end
 abbrev pub space : List ℕ
@@ -58,7 +58,7 @@ refusalLine place r =
 abbrev pub lineOf : ℕ → Event → List ℕ
 lineOf place silence = []
 lineOf place (found w) = frameLine place w
-lineOf place (refused r) = refusalLine place r
+lineOf place (rejected r) = refusalLine place r
 
 -- the totals
 unfoldable pub endLine : ℕ → ℕ → ℕ → List ℕ
@@ -67,7 +67,3 @@ endLine bytes frames refusals = line ((0x65 ∷ 0x6E ∷ 0x64 ∷ []) ∷ decima
 -- no line is longer: a frame with a place of 20 digits, a long address, a command of 3 digits and 255 bytes of data
 abbrev pub lineMax : ℕ
 lineMax = 551
-
--- how the line of a piece begins: its letter and the place
-abbrev pub start : ℕ → ℕ → List ℕ
-start letter place = ((letter ∷ []) ++ space) ++ (decimal place ++ space)

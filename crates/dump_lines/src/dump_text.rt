@@ -19,13 +19,15 @@ ghost use Prim.Native.Nat.{_+_, _*_, _≤_, _<_};
 ghost use lib.ListN.{length, take, drop};
 ghost use Rattle.refusal.specs.Outcome.{ends, replyOf};
 ghost use Rattle.types.specs.Address.{addressLength};
-ghost use Rattle.line.specs.machine.Room.{addressRoom, room};
+ghost use Rattle.line.specs.machine.Room.{addressRoom, decoderRoom};
 ghost use Rattle.line.specs.machine.Frames.{wireAt};
 ghost use Rattle.line.specs.machine.Feed.{eventOf};
 ghost use Rattle.octets.specs.Figures.{decimal as decimalText, hex as hexText};
-ghost use Rattle.dump_lines.specs.Text.{lineMax, addressText, dataText, start, frameLine, refusalLine, lineOf};
+ghost use Rattle.dump_lines.specs.Text.{lineMax, addressText, dataText, frameLine, refusalLine, lineOf};
+ghost use Rattle.dump_lines.specs.Code.{start};
 ghost use Rattle.dump_lines.specs.Text.{letter as typeLetter};
-ghost use Rattle.dump_lines.specs.Writing.{Writes, endWritten};
+ghost use Rattle.dump_lines.specs.Writing.{endWritten};
+ghost use Rattle.dump_lines.specs.Code.{Writes};
 
 // No line is longer: a frame with a place of 20 digits, a long address, a command of 3 digits and 255
 // bytes of data.
@@ -87,7 +89,7 @@ fn write_hex(bytes: &[u8], mark: u8, out: &mut [u8], at: usize) -> usize
 
 // As our writer writes it, so that the bits that say nothing are zero.
 fn write_address(bytes: &[u8], long: bool, mark: u8, out: &mut [u8], at: usize) -> usize
-    requires { ⌜ (length (now bytes) ≡ room) × (at + 10 < length (now out)) ⌝ }
+    requires { ⌜ (length (now bytes) ≡ decoderRoom) × (at + 10 < length (now out)) ⌝ }
     ensures { λ r. ⌜ Writes (now (out .entry)) at (addressText long (take (addressLength long) (now (bytes .entry))) ++ (mark ∷ [])) r (now (out .exit)) ⌝ }
     ensures { λ r. ⌜ r ≤ at + 11 ⌝ }
 {
@@ -100,7 +102,7 @@ fn write_address(bytes: &[u8], long: bool, mark: u8, out: &mut [u8], at: usize) 
 }
 
 fn write_data(bytes: &[u8], n: u8, mark: u8, out: &mut [u8], at: usize) -> usize
-    requires { ⌜ (length (now bytes) ≡ room) × (at + 510 < length (now out)) ⌝ }
+    requires { ⌜ (length (now bytes) ≡ decoderRoom) × (at + 510 < length (now out)) ⌝ }
     ensures { λ r. ⌜ Writes (now (out .entry)) at (dataText (take n (drop addressRoom (now (bytes .entry)))) ++ (mark ∷ [])) r (now (out .exit)) ⌝ }
 {
     if n == 0 {
@@ -140,7 +142,7 @@ fn write_frame(
     out: &mut [u8],
     at: usize,
 ) -> usize
-    requires { ⌜ (length (now bytes) ≡ room) × (at + lineMax ≤ length (now out)) ⌝ }
+    requires { ⌜ (length (now bytes) ≡ decoderRoom) × (at + lineMax ≤ length (now out)) ⌝ }
     ensures { λ r. ⌜ Writes (now (out .entry)) at (frameLine place (wireAt head command n (now (bytes .entry)))) r (now (out .exit)) ⌝ }
 {
     let frame_type = head.frame_type;

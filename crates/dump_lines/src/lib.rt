@@ -19,7 +19,7 @@ ghost use Rattle.octets.specs.Put.{put};
 ghost use Rattle.dump_lines.specs.Text.{lineMax};
 ghost use Rattle.line.specs.machine.Feed.{eventOf};
 ghost use Rattle.dump_lines.specs.Writing.{endWritten};
-ghost use Rattle.dump_lines.specs.Lines.{more, counted, dump, fresh, next, told, printed, taking, taken};
+ghost use Rattle.dump_lines.specs.Lines.{more, totalled, dump, freshDump, nextDump, told, printed, taking, taken};
 
 // Each stays at the largest number that it can be.
 pub struct Totals {
@@ -30,9 +30,9 @@ pub struct Totals {
 
 // A decoder's state with its bytes, and the totals so far. The bytes so far are the next byte's place.
 pub struct Dump {
-    pub state: State,
-    pub bytes: [u8; ROOM],
-    pub totals: Totals,
+    state: State,
+    bytes: [u8; ROOM],
+    totals: Totals,
 }
 
 // How many bytes were taken, how many were written, and the dump for what follows.
@@ -55,8 +55,8 @@ fn more(n: u64) -> u64
 }
 
 // One byte more, and what it ended.
-fn counted(totals: Totals, ended: Ended) -> Totals
-    ensures { λ r. ⌜ ((bs : List ℕ) → r ≡ counted totals (eventOf ended bs)) ⌝ }
+fn totalled(totals: Totals, ended: Ended) -> Totals
+    ensures { λ r. ⌜ ((bs : List ℕ) → r ≡ totalled totals (eventOf ended bs)) ⌝ }
 {
     let mut next = totals;
     next.bytes = more(totals.bytes);
@@ -88,14 +88,14 @@ fn turn(
     at: usize,
 ) -> Turned
     requires { ⌜ at + lineMax ≤ length (now out) ⌝ }
-    ensures { λ r. ⌜ dump (r .state) (now (bytes .exit)) (r .totals) ≡ next (dump state (now (bytes .entry)) totals) byte ⌝ }
+    ensures { λ r. ⌜ dump (r .state) (now (bytes .exit)) (r .totals) ≡ nextDump (dump state (now (bytes .entry)) totals) byte ⌝ }
     ensures { λ r. ⌜ r .written ≡ at + length (told (dump state (now (bytes .entry)) totals) byte) ⌝ }
     ensures { λ _. ⌜ now (out .exit) ≡ put (now (out .entry)) at (told (dump state (now (bytes .entry)) totals) byte) ⌝ }
 {
     let moved = step(state, bytes, byte);
     let next = moved.state;
     let ended = moved.ended;
-    let counted = counted(totals, ended);
+    let counted = totalled(totals, ended);
     if let Ended::Nothing = ended {
         return Turned {
             state: next,
@@ -114,7 +114,7 @@ fn turn(
 
 impl Dump {
     pub fn new() -> Dump
-        ensures { λ r. ⌜ r ≡ fresh ⌝ }
+        ensures { λ r. ⌜ r ≡ freshDump ⌝ }
     {
         Dump {
             state: State::Hunting,

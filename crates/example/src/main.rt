@@ -98,14 +98,7 @@ fn tell_variables(response: ReadDeviceVarsResponse) {
 // The response that a frame carries in the mode of the HART documents. Whatever stands in its way, from the
 // frame's type to the device's own error codes, comes back as a refusal.
 fn tell_response(frame: Frame) {
-    let frame_type = frame.frame_type;
-    let data = frame.data;
-    let response = read_device_vars::read_frame(
-        Mode::Standard,
-        frame_type,
-        frame.command,
-        first(&data, frame.length as usize),
-    );
+    let response = read_device_vars::read_response(Mode::Standard, frame);
     let verdict = response.verdict;
     match verdict {
         PayloadVerdict::Carried => tell_variables(response),

@@ -11,7 +11,7 @@ use Rattle.types.specs.Address.{addressLength, isLong, addressBytes}
 use Rattle.types.proofs.Addresses.{length-address}
 use Rattle.line.specs.Layout.{preambles, body}
 use Rattle.line.specs.Encode.{wireOf}
-use Rattle.framing.specs.Head.{head}
+use Rattle.framing.specs.Code.{head}
 
 module _ (t : FrameType) (a : Address) (c n : ℕ) where
   pub length-head : (k : ℕ) → length (head t a c k n) ≡ n + 3 + addressLength (isLong a)

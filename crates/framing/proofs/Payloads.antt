@@ -1,11 +1,14 @@
--- When a frame's data carry a payload, and which part is then handed back: callers cite these and not the text of the definitions.
-use Prim.Native.Nat.{ℕ, _≤_}
+-- When a frame's data carry a payload, which part is then handed back, and what a typed reading of a frame is: callers cite these and not
+-- the text of the definitions.
+use Prim.Native.Nat.{ℕ, _-_, _≤_}
+use native.Mathlib.Nat.{sub-zero}
 use native.Mathlib.Omega.{arith}
 use mathlib.Core.Path.{_≡_, refl, sym, ap, _∙_}
 use mathlib.Core.Logic.{_≢_, _↔_}
 use mathlib.Core.Bool.{Bool, true, false, cond, not}
 use mathlib.Core.List.{List, []}
-use lib.ListN.{length, getD, drop}
+use lib.ListN.{length, getD, take, drop, replicate}
+use lib.Seq.{take-append-seam}
 use lib.Dec.{eqb}
 use borrow.Author.Tests.{ltb-false, eqb-true, not-false, le-ltb, eq-eqb, ne-eqb}
 use Rattle.refusal.specs.declared.Refusal.{Refusal}
@@ -15,12 +18,15 @@ use Rattle.octets.specs.Bit.{bit}
 use Rattle.types.specs.Delimiter.{typeNumber}
 use Rattle.types.specs.declared.delimiter.FrameType.{FrameType}
 use Rattle.types.specs.declared.delimiter.FrameType.the-variants.{Request, Response, Burst}
+use Rattle.line.specs.Layout.{Wire}
+use Rattle.line.specs.machine.Frames.{frameOf}
+use Rattle.line.specs.declared.frame.Frame.{Frame}
 use Rattle.framing.specs.declared.payload.PayloadVerdict.{PayloadVerdict}
 use Rattle.framing.specs.declared.payload.PayloadVerdict.the-variants.{Carried, Refused}
-use Rattle.framing.specs.Payload.{Judgement, carries, refused, judgementOf, judged, payload, payloadPart, typed, passedOn}
+use Rattle.framing.specs.Payload.{Judgement, carries, withheld, judgementOf, judged, payloadJudgement, payloadPart, typed, passedOn, dataOf, typedReading}
 
 -- a check that does not refuse
-passed : (fails : Bool) (n : ℕ) (vs : List ℕ) (rest : Judgement) → cond fails (refused n vs) rest ≡ carries → (fails ≡ false) × (rest ≡ carries)
+passed : (fails : Bool) (n : ℕ) (vs : List ℕ) (rest : Judgement) → cond fails (withheld n vs) rest ≡ carries → (fails ≡ false) × (rest ≡ carries)
 passed true n vs rest e = (cc, cc)
 passed false n vs rest e = (refl, e)
 
@@ -34,35 +40,35 @@ judged-exactly t other ds =
       λ h. rw (le-ltb (length ds) 2 (h .1), h .2),
     )
 
-pub carries-exactly : (t : FrameType) (ds : List ℕ) → (payload t ds ≡ carries) ↔ ((t ≢ Request) × (2 ≤ length ds) × (getD ds 0 0 ≡ 0))
-unfolding payload
+pub carries-exactly : (t : FrameType) (ds : List ℕ) → (payloadJudgement t ds ≡ carries) ↔ ((t ≢ Request) × (2 ≤ length ds) × (getD ds 0 0 ≡ 0))
+unfolding payloadJudgement
 carries-exactly Request ds = (λ e. let z : _≡_ {A = ℕ} 0 1 = cc in absurd (omega arith), λ h. absurd (h .0 refl))
 carries-exactly Response ds = judged-exactly Response (λ e. omega (arith, ap typeNumber e)) ds
 carries-exactly Burst ds = judged-exactly Burst (λ e. omega (arith, ap typeNumber e)) ds
 
-pub part-carried : (t : FrameType) (p : Part) → payload t (p .bytes) ≡ carries → payloadPart t p ≡ from 2 p
+pub part-carried : (t : FrameType) (p : Part) → payloadJudgement t (p .bytes) ≡ carries → payloadPart t p ≡ from 2 p
 unfolding payloadPart
 part-carried t p e = rw e
 
-pub part-refused : (t : FrameType) (p : Part) (n : ℕ) (vs : List ℕ) → payload t (p .bytes) ≡ refused n vs → payloadPart t p ≡ emptyAt p
+pub part-refused : (t : FrameType) (p : Part) (n : ℕ) (vs : List ℕ) → payloadJudgement t (p .bytes) ≡ withheld n vs → payloadPart t p ≡ emptyAt p
 unfolding payloadPart
 part-refused t p n vs e = rw e
 
 module _ (wanted : ℕ) (t : FrameType) (command : ℕ) (ds : List ℕ) where
-  pub typed-same : command ≡ wanted → typed wanted t command ds ≡ payload t ds
+  pub typed-same : command ≡ wanted → typed wanted t command ds ≡ payloadJudgement t ds
   unfolding typed
   typed-same e = rw (eq-eqb command wanted e)
 
-  pub typed-other : command ≢ wanted → typed wanted t command ds ≡ refused 6 []
+  pub typed-other : command ≢ wanted → typed wanted t command ds ≡ withheld 6 []
   unfolding typed
   typed-other n = rw (ne-eqb command wanted n)
 
   -- what is carried for a command is carried at all
-  typed-carries : typed wanted t command ds ≡ carries → payload t ds ≡ carries
+  typed-carries : typed wanted t command ds ≡ carries → payloadJudgement t ds ≡ carries
   unfolding typed
   typed-carries e = by (eqb command wanted) e
     where
-      by : (same : Bool) → cond same (payload t ds) (refused 6 []) ≡ carries → payload t ds ≡ carries
+      by : (same : Bool) → cond same (payloadJudgement t ds) (withheld 6 []) ≡ carries → payloadJudgement t ds ≡ carries
       by true f = f
       by false f = cc
 
@@ -81,6 +87,23 @@ module _ {A : Type 0} (read : List ℕ → A) (refuse : ℕ → List ℕ → A) 
   passed-refused told said = ap (λ (j : Judgement). passedOn read refuse j (p .bytes)) (sym (ap judgementOf told) ∙ said)
 
   -- the same where the answer is made of the verdict itself
-  pub passed-verdict : {r : Refusal} (nothing : Judgement → A) → nothing (refused (numberOf r) (valuesOf r)) ≡ refuse (numberOf r) (valuesOf r) → v ≡ Refused r → judgementOf v ≡ typed wanted t command (p .bytes)
+  pub passed-verdict : {r : Refusal} (nothing : Judgement → A) → nothing (withheld (numberOf r) (valuesOf r)) ≡ refuse (numberOf r) (valuesOf r) → v ≡ Refused r → judgementOf v ≡ typed wanted t command (p .bytes)
       → nothing (judgementOf v) ≡ passedOn read refuse (typed wanted t command (p .bytes)) (p .bytes)
   passed-verdict nothing same told said = ap (λ (u : PayloadVerdict). nothing (judgementOf u)) told ∙ same ∙ passed-refused told said
+
+-- a frame as it was heard has the payload of the line, without a byte of what fills its array
+pub frame-data : (w : Wire) → dataOf (frameOf w) ≡ w .payload
+frame-data w = take-append-seam (w .payload) (replicate (255 - length (w .payload)) 0)
+
+module _ {A : Type 0} (read : List ℕ → A) (refuse : ℕ → List ℕ → A) (wanted : ℕ) where
+  -- what was read of a frame's own data, as they are lent, is a typed reading of the frame
+  pub reads-frame : (f : Frame) {x : A} → let ds = take (f .length - 0) (f .«data») in x ≡ passedOn read refuse (typed wanted (f .«frame_type») (f .command) ds) ds → x ≡ typedReading read refuse wanted f
+  unfolding typedReading
+  reads-frame f e =
+      let part : List ℕ → A = λ ds. passedOn read refuse (typed wanted (f .«frame_type») (f .command) ds) ds in
+      e ∙ ap (λ (n : ℕ). part (take n (f .«data»))) (sub-zero (f .length))
+
+  -- of a frame as it was heard: the reading of what stood on the line
+  pub reads-wire : (w : Wire) → typedReading read refuse wanted (frameOf w) ≡ passedOn read refuse (typed wanted (w .frameType) (w .command) (w .payload)) (w .payload)
+  unfolding typedReading
+  reads-wire w = ap (λ (ds : List ℕ). passedOn read refuse (typed wanted (w .frameType) (w .command) ds) ds) (frame-data w)

@@ -2,9 +2,9 @@
 -- No machine is argued about: the written bytes are the bytes of a piece, and a run has one cut.
 use Prim.Native.Nat.{ℕ, _+_, _-_, _≤_, _<_}
 use native.Mathlib.Omega.{arith}
-use mathlib.Core.Path.{_≡_, refl, sym, ap, ap₂, subst, _∙_}
+use mathlib.Core.Path.{_≡_, sym, ap, ap₂, subst, _∙_}
 use mathlib.Core.Logic.{_≢_}
-use mathlib.Core.List.{List, [], _∷_, _++_, map, append-assoc, append-nil, map-append}
+use mathlib.Core.List.{List, [], _∷_, _++_, map}
 use lib.Dec.{lit<}
 use lib.ListN.{length, take, replicate, length-append}
 use Rattle.octets.proofs.Check.{check-below}
@@ -13,36 +13,21 @@ use Rattle.types.specs.Address.{addressLength, isLong, addressBytes, Limited}
 use Rattle.types.proofs.Delimiters.{delimiter-small}
 use Rattle.types.proofs.Addresses.{length-address, address-bytes-below, address-back, long-read}
 use Rattle.line.specs.Layout.{Wire, Fits, preambles, body, checkOf}
-use Rattle.line.specs.Pieces.{Piece, noise, shortRun, badDelimiter, frame, badCheck, front, bytesOf, Bytes, joined, AllHold, Cut, nothing}
-use Rattle.line.specs.Events.{Event, silence, found, verdict, silent, saidBy, dictated, gather, framesIn}
+use Rattle.line.specs.Pieces.{Piece, noise, shortRun, badDelimiter, frame, badCheck, front, bytesOf, Bytes, joined, AllHold}
+use Rattle.line.specs.Events.{silence, found, verdict, saidBy, gather, framesIn}
+use Rattle.line.specs.Runs.{says}
 use Rattle.line.proofs.Layouts.{length-frame}
 use Rattle.line.proofs.Bytes.{bytes-append, bytes-replicate}
 use Rattle.line.specs.Encode.{layout, total}
 use Rattle.line.proofs.Encoded.{length-layout, encoded-whole}
 use Rattle.line.specs.machine.Frames.{frameOf, heardOf}
+use Rattle.framing.specs.Feed.{freshDecoder}
+use Rattle.framing.specs.Demand.{decoderHears}
 use Rattle.framing.specs.RoundTrip.{Handed, written, IsDone, heardBack, HeardBehind, Lacks, NotFound}
 use Rattle.line.specs.declared.frame.Frame.{Frame}
 use Rattle.line.specs.declared.frame.Heard.{Heard}
 use Rattle.framing.proofs.Demand.{answered}
-
--- pieces joined
-joined-append : (ps qs : List Piece) → joined (ps ++ qs) ≡ joined ps ++ joined qs
-joined-append [] qs = refl
-joined-append (p ∷ ps) qs = ap (λ (bs : List ℕ). bytesOf p ++ bs) (joined-append ps qs) ∙ sym (append-assoc (bytesOf p) (joined ps) (joined qs))
-
-hold-append : (ps qs : List Piece) → AllHold ps → AllHold qs → AllHold (ps ++ qs)
-hold-append [] qs h k = k
-hold-append (p ∷ ps) qs h k = (h .0, hold-append ps qs (h .1) k)
-
-said-append : (ps qs : List Piece) → saidBy (ps ++ qs) ≡ saidBy ps ++ saidBy qs
-said-append [] qs = refl
-said-append (p ∷ ps) qs =
-    ap (λ (es : List Event). silent (front p) ++ (verdict p ∷ es)) (said-append ps qs)
-    ∙ sym (append-assoc (silent (front p)) (verdict p ∷ saidBy ps) (saidBy qs))
-
-quiet : (bs : List ℕ) → map heardOf (silent bs) ≡ replicate (length bs) (heardOf silence)
-quiet [] = refl
-quiet (b ∷ bs) = ap (λ (hs : List Heard). heardOf silence ∷ hs) (quiet bs)
+use Rattle.framing.proofs.Responses.{frame-heard}
 
 -- what is written is bytes
 layout-bytes : (h : Handed) → length (h .payload) ≤ 255 → Bytes (layout (h .preambleCount) (written h))
@@ -64,21 +49,12 @@ written-heard h enough limits before count after e ps hold small =
     let n = h .preambleCount in
     let z = encoded-whole (h .frameType) (h .address) (h .command) (h .payload) n before count after e in
     let f = frame n (written h) in
-    let run = joined ps ++ take count after in
-    let fits : Fits (written h) = record { addressed = length-address (h .address); counted = z .short } in
-    let whole : run ≡ joined (ps ++ (f ∷ [])) ++ [] =
-    ap (λ (bs : List ℕ). joined ps ++ bs) (z .bytes ∙ sym (append-nil (bytesOf f))) ∙ sym (joined-append ps (f ∷ [])) ∙ sym (append-nil (joined (ps ++ (f ∷ [])))) in
-    let cut : Cut run (ps ++ (f ∷ [])) [] = record { pieces = hold-append ps (f ∷ []) hold ((enough, fits), tt); rest = nothing; whole = whole } in
-    let bytes : Bytes run = bytes-append (joined ps) (take count after) small (subst Bytes (sym (z .bytes)) (layout-bytes h (z .short))) in
-    let a = answered run bytes in
-    let one = a .only (ps ++ (f ∷ [])) [] cut in
+    let fits : Fits (written h) = record { addressFits = length-address (h .address); countFits = z .short } in
+    let bytes : Bytes (joined ps ++ bytesOf f) = bytes-append (joined ps) (bytesOf f) small (layout-bytes h (z .short)) in
     let last : length (front f) ≡ count - 1 = omega (arith, ap length (z .bytes), length-append (front f) (checkOf (written h) ∷ []), length-layout (h .frameType) (h .address) (h .command) n (h .payload), z .totals) in
-    a .answers
-    ∙ ap₂ (λ (qs : List Piece) (u : List ℕ). map heardOf (dictated qs u)) (one .0) (one .1)
-    ∙ ap (map heardOf) (append-nil (saidBy (ps ++ (f ∷ []))) ∙ said-append ps (f ∷ []))
-    ∙ map-append heardOf (saidBy ps) (silent (front f) ++ (found (written h) ∷ []))
-    ∙ ap (λ (hs : List Heard). map heardOf (saidBy ps) ++ hs)
-    (map-append heardOf (silent (front f)) (found (written h) ∷ []) ∙ ap₂ (λ (hs : List Heard) (x : Heard). hs ++ (x ∷ [])) (quiet (front f) ∙ ap (λ (k : ℕ). replicate k (heardOf silence)) last) (told-back h limits))
+    ap (λ (bs : List ℕ). says decoderHears freshDecoder (joined ps ++ bs)) (z .bytes)
+    ∙ frame-heard ps n (written h) hold (enough, fits) bytes
+    ∙ ap₂ (λ (k : ℕ) (x : Heard). map heardOf (saidBy ps) ++ (replicate k (heardOf silence) ++ (x ∷ []))) last (told-back h limits)
 
 -- a frame of a shorter run is another one: too few bytes stand there for five preamble bytes and the same address and data
 module _ (w : Wire) where
@@ -90,7 +66,7 @@ module _ (w : Wire) where
       let p : length (w .payload) ≡ length (v .payload) = ap (λ (g : Frame). g .length) e in
       let l : w .long ≡ v .long = sym (long-read (w .long) (w .address)) ∙ ap (λ (g : Frame). isLong (g .address)) e ∙ long-read (v .long) (v .address) in
       let a : addressLength (w .long) ≡ addressLength (v .long) = ap addressLength l in
-      omega (arith, length-frame n v (f .addressed))
+      omega (arith, length-frame n v (f .addressFits))
 
   shorter : (p : Piece) (ps : List Piece) → Short-run (p ∷ ps) → Short-run ps
   shorter p ps k = omega (arith, length-append (bytesOf p) (joined ps))

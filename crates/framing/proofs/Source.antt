@@ -11,7 +11,7 @@ use lib.Dec.{ltb, lit<}
 use lib.ListN.{length, take, drop, set, length-append, length-drop, length-set, length-replicate}
 use lib.Seq.{append-snoc, getD-at}
 use borrow.Author.Tests.{ltb-true, ltb-false, lt-ltb, le-leb}
-use Rattle.refusal.specs.Outcome.{ends, done, wrote, refuses}
+use Rattle.refusal.specs.Outcome.{Outcome, ends, done, wrote, refuses}
 use Rattle.octets.specs.Check.{checkFrom}
 use Rattle.octets.specs.Put.{put}
 use Rattle.octets.specs.Source.{Run, stops, comes, shiftRight, asU8}
@@ -28,10 +28,10 @@ use Rattle.types.specs.Address.{addressLength, isLong, firstByte, addressBytes,
 use Rattle.types.proofs.Addresses.{address-fits, length-address}
 use Rattle.line.specs.Layout.{preambles, checkOf}
 use Rattle.line.specs.Encode.{wireOf, layout, total, encoded}
-use Rattle.framing.specs.Source.{marked, sourceAddress, sourceAddressWritten, computeDelimiter, preambleLoop, lentFrom, sumLoop, dataLoop, sourceTail, sourceBody, sourceFrame}
+use Rattle.framing.specs.Source.{marked, sourceAddressInto, sourceAddressWritten, computeDelimiter, preambleLoop, lentFrom, sumLoop, dataLoop, sourceTail, sourceBody, sourceFrame}
 
 -- Stores in a row are the data loop, wherever they stand: what they write follows what stands at the front.
-data-loop : (ds bs l : List ℕ) (at to sum : ℕ) (rest : ℕ → ℕ → List ℕ → Run) → length bs ≡ at → at + length ds ≡ to → to ≤ length l
+data-loop : (ds bs l : List ℕ) (at to sum : ℕ) (rest : ℕ → ℕ → List ℕ → Run Outcome) → length bs ≡ at → at + length ds ≡ to → to ≤ length l
     → dataLoop ds at sum (put l 0 bs) rest ≡ rest to (checkFrom sum ds) (put l 0 (bs ++ ds))
 data-loop [] bs l at to sum rest e f h = let g : at ≡ to = omega arith in rw (append-nil bs, g)
 data-loop (d ∷ ds) bs l at to sum rest e f h =
@@ -41,7 +41,7 @@ data-loop (d ∷ ds) bs l at to sum rest e f h =
     ∙ ap (λ (r : List ℕ). rest to (checkFrom (bitXor sum d) ds) (put l 0 r)) (append-snoc bs d ds))
 
 -- and without room for all of them one stops
-data-loop-stops : (ds l : List ℕ) (at sum : ℕ) (rest : ℕ → ℕ → List ℕ → Run) → at ≤ length l → length l < at + length ds → dataLoop ds at sum l rest ≡ stops
+data-loop-stops : (ds l : List ℕ) (at sum : ℕ) (rest : ℕ → ℕ → List ℕ → Run Outcome) → at ≤ length l → length l < at + length ds → dataLoop ds at sum l rest ≡ stops
 data-loop-stops [] l at sum rest h k = absurd (omega arith)
 data-loop-stops (d ∷ ds) l at sum rest h k = by (data-loop-stops ds (set l at d) (at + 1) (bitXor sum d) rest) (ltb at (length l)) refl
   where
@@ -51,9 +51,9 @@ data-loop-stops (d ∷ ds) l at sum rest h k = by (data-loop-stops ds (set l at 
     by more false t = refl
 
 -- the preamble is data whose sum nobody takes
-preamble-loop : (n at sum : ℕ) (l : List ℕ) (rest : ℕ → List ℕ → Run) → preambleLoop n at l rest ≡ dataLoop (preambles n) at sum l (λ to s b. rest to b)
+preamble-loop : (n at sum : ℕ) (l : List ℕ) (rest : ℕ → List ℕ → Run Outcome) → preambleLoop n at l rest ≡ dataLoop (preambles n) at sum l (λ to s b. rest to b)
 preamble-loop zero at sum l rest = refl
-preamble-loop (suc n) at sum l rest = ap (λ (r : Run). cond (ltb at (length l)) r stops) (preamble-loop n (at + 1) (bitXor sum 0xFF) (set l at 0xFF) rest)
+preamble-loop (suc n) at sum l rest = ap (λ (r : Run Outcome). cond (ltb at (length l)) r stops) (preamble-loop n (at + 1) (bitXor sum 0xFF) (set l at 0xFF) rest)
 
 -- a bit set above a field is a bit added to it
 marked-first : (m : MasterRole) (b : Bool) (low : ℕ) → low < 64 → marked low m b ≡ firstByte m b low
@@ -68,7 +68,7 @@ low-byte : (x : ℕ) → asU8 (bitAnd x 0xFF) ≡ x % 256
 low-byte x = ap asU8 (and-mask x 8) ∙ omega arith
 
 -- an address too, from the buffer's first place
-address-loop : (a : Address) (l : List ℕ) (rest : ℕ → List ℕ → Run) → sourceAddress a l rest ≡ dataLoop (addressBytes a) 0 0 l (λ to s b. rest to b)
+address-loop : (a : Address) (l : List ℕ) (rest : ℕ → List ℕ → Run Outcome) → sourceAddressInto a l rest ≡ dataLoop (addressBytes a) 0 0 l (λ to s b. rest to b)
 unfolding addressBytes
 address-loop (Short m b p) l rest = rw (and-mask p 4, marked-first m b (p % 16) (omega arith))
 address-loop (Long m b f t n) l rest =
@@ -76,11 +76,11 @@ address-loop (Long m b f t n) l rest =
     rw (and-mask f 6, marked-first m b (f % 64) (omega arith), high, low-byte (n / 2 ^ 8), low-byte n)
 
 -- both from the first place of a buffer with room for them
-loop-from-start : (ds l : List ℕ) (to : ℕ) (rest : ℕ → List ℕ → Run) → length ds ≡ to → to ≤ length l → dataLoop ds 0 0 l (λ to s b. rest to b) ≡ rest to (put l 0 ds)
+loop-from-start : (ds l : List ℕ) (to : ℕ) (rest : ℕ → List ℕ → Run Outcome) → length ds ≡ to → to ≤ length l → dataLoop ds 0 0 l (λ to s b. rest to b) ≡ rest to (put l 0 ds)
 loop-from-start ds l to rest e h =
     ap (λ (b : List ℕ). dataLoop ds 0 0 b (λ to s b. rest to b)) (sym (put-nil l 0)) ∙ data-loop ds [] l 0 to 0 (λ to s b. rest to b) refl (omega arith) h
 
-address-run : (a : Address) (l : List ℕ) (rest : ℕ → List ℕ → Run) → addressLength (isLong a) ≤ length l → sourceAddress a l rest ≡ rest (length (addressBytes a)) (put l 0 (addressBytes a))
+address-run : (a : Address) (l : List ℕ) (rest : ℕ → List ℕ → Run Outcome) → addressLength (isLong a) ≤ length l → sourceAddressInto a l rest ≡ rest (length (addressBytes a)) (put l 0 (addressBytes a))
 address-run a l rest h = address-loop a l rest ∙ loop-from-start (addressBytes a) l (length (addressBytes a)) rest refl (omega (arith, length-address a))
 
 module _ (a : Address) (buffer : List ℕ) where
@@ -91,12 +91,12 @@ module _ (a : Address) (buffer : List ℕ) where
 
   pub address-source-stops : length buffer < addressLength (isLong a) → sourceAddressWritten a buffer ≡ stops
   address-source-stops h =
-      let rest : ℕ → List ℕ → Run = λ written b. comes (ends (done (written ∷ [])) b) in
+      let rest : ℕ → List ℕ → Run Outcome = λ written b. comes (ends (done (written ∷ [])) b) in
       address-loop a buffer rest ∙ data-loop-stops (addressBytes a) buffer 0 0 (λ to s b. rest to b) (omega arith) (omega (arith, length-address a))
 
 -- an address into a part of the buffer, behind what stands at its front
-address-lent-run : (a : Address) (bs l : List ℕ) (at : ℕ) (rest : ℕ → List ℕ → Run) → length bs ≡ at → at + addressLength (isLong a) ≤ length l
-    → lentFrom (put l 0 bs) at (λ part back. sourceAddress a part (λ written part₁. rest written (back part₁))) ≡ rest (length (addressBytes a)) (put l 0 (bs ++ addressBytes a))
+address-lent-run : (a : Address) (bs l : List ℕ) (at : ℕ) (rest : ℕ → List ℕ → Run Outcome) → length bs ≡ at → at + addressLength (isLong a) ≤ length l
+    → lentFrom (put l 0 bs) at (λ part back. sourceAddressInto a part (λ written part₁. rest written (back part₁))) ≡ rest (length (addressBytes a)) (put l 0 (bs ++ addressBytes a))
 address-lent-run a bs l at rest e h =
     let b = put l 0 bs in
     let ad = addressBytes a in
@@ -106,7 +106,7 @@ address-lent-run a bs l at rest e h =
     ∙ ap (rest (length ad)) (put-behind b at ad ∙ put-put l 0 bs ad at (omega arith) (omega arith)))
 
 -- the bytes that the address left, read back into the sum
-sum-loop : (bs xs ys : List ℕ) (i at sum : ℕ) (rest : ℕ → Run) → length xs ≡ at + i → sumLoop (length bs) i at sum (xs ++ (bs ++ ys)) rest ≡ rest (checkFrom sum bs)
+sum-loop : (bs xs ys : List ℕ) (i at sum : ℕ) (rest : ℕ → Run Outcome) → length xs ≡ at + i → sumLoop (length bs) i at sum (xs ++ (bs ++ ys)) rest ≡ rest (checkFrom sum bs)
 sum-loop [] xs ys i at sum rest e = refl
 sum-loop (b ∷ bs) xs ys i at sum rest e =
     let room : at + i < length (xs ++ (b ∷ (bs ++ ys))) = omega (arith, length-append xs (b ∷ (bs ++ ys))) in
@@ -134,7 +134,7 @@ module _ (c : ℕ) (ds buffer : List ℕ) where
       let xs = c ∷ length ds ∷ ds in
       let to = at + 2 + length ds in
       let long : length (bs ++ xs) ≡ to = omega (arith, length-append bs xs) in
-      let last : ℕ → ℕ → List ℕ → Run = λ at₁ sum₁ b. dataLoop (sum₁ ∷ []) at₁ 0 b (λ to₁ s b₁. comes (ends (done (to₁ ∷ [])) b₁)) in
+      let last : ℕ → ℕ → List ℕ → Run Outcome = λ at₁ sum₁ b. dataLoop (sum₁ ∷ []) at₁ 0 b (λ to₁ s b₁. comes (ends (done (to₁ ∷ [])) b₁)) in
       let small : asU8 (length ds) ≡ length ds = mod-eq-of-lt (omega arith) in
       rw small
       (data-loop xs bs buffer at to sum last e (omega arith) (omega arith)
@@ -155,14 +155,14 @@ module _ (t : FrameType) (a : Address) (c : ℕ) (ds : List ℕ) (n : ℕ) (buff
       let lp : length pre ≡ n = length-replicate {A = ℕ} n 255 in
       let lf : length front ≡ n + 1 = omega (arith, length-append pre (d ∷ [])) in
       let la : length ad ≡ addressLength (isLong a) = length-address a in
-      let summed : ℕ → List ℕ → Run = λ written b. sumLoop written 0 (n + 1) d b (λ sum. sourceTail c ds (n + 1 + written) sum b) in
-      let tail : ℕ → Run = λ sum. sourceTail c ds (n + 1 + length ad) sum held in
+      let summed : ℕ → List ℕ → Run Outcome = λ written b. sumLoop written 0 (n + 1) d b (λ sum. sourceTail c ds (n + 1 + written) sum b) in
+      let tail : ℕ → Run Outcome = λ sum. sourceTail c ds (n + 1 + length ad) sum held in
       let joined : (front ++ ad) ++ xs ≡ pre ++ (d ∷ (ad ++ xs)) = simp append-assoc in
       let sum : checkFrom (checkFrom d ad) xs ≡ checkOf (wireOf t a c ds) = sym (check-first d (ad ++ xs) ∙ check-append d ad xs) in
       preamble-loop n 0 0 buffer (sourceBody t a c ds)
       ∙ loop-from-start pre buffer n (sourceBody t a c ds) lp (omega arith)
       ∙ rw (delimiter-same t (isLong a))
-      (data-loop (d ∷ []) pre buffer n (n + 1) 0 (λ at s b. lentFrom b at (λ part back. sourceAddress a part (λ written part₁. summed written (back part₁)))) lp refl (omega arith)
+      (data-loop (d ∷ []) pre buffer n (n + 1) 0 (λ at s b. lentFrom b at (λ part back. sourceAddressInto a part (λ written part₁. summed written (back part₁)))) lp refl (omega arith)
       ∙ address-lent-run a front buffer (n + 1) summed lf (omega arith)
       ∙ ap (λ (b : List ℕ). sumLoop (length ad) 0 (n + 1) d b tail) (put-front buffer (front ++ ad) ∙ append-assoc front ad behind)
       ∙ sum-loop ad front behind 0 (n + 1) d tail (omega arith)

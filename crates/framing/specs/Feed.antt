@@ -2,10 +2,9 @@
 use Prim.Native.Nat.{ℕ}
 use mathlib.Core.Bool.{Bool}
 use Rattle.line.specs.Events.{Event}
-use Rattle.line.specs.machine.Frames.{noFrame, heardOf}
+use Rattle.line.specs.machine.Frames.{heardOf}
 use Rattle.line.specs.machine.Feed as machine
 use Rattle.line.specs.machine.Feed.{Held}
-use Rattle.line.specs.declared.frame.Answer.{Answer}
 use Rattle.framing.specs.declared.decode.Decoder.{Decoder}
 use Rattle.framing.specs.declared.decode.Fed.{Fed}
 
@@ -15,27 +14,23 @@ decoderOf h = record { state = h .state; bytes = h .bytes }
 abbrev pub heldOf : Decoder → Held
 heldOf d = record { state = d .state; bytes = d .bytes }
 
-abbrev pub fresh : Decoder
-fresh = decoderOf machine.fresh
+abbrev pub freshDecoder : Decoder
+freshDecoder = decoderOf machine.fresh
 
-abbrev pub reachable : Decoder → Bool
-reachable d = machine.reachable (heldOf d)
+abbrev pub decoderReachable : Decoder → Bool
+decoderReachable d = machine.reachable (heldOf d)
 
 -- what is held is handed on as a decoder
 abbrev pub renamed : Held × Event → Decoder × Event
 renamed x = (decoderOf (x .0), x .1)
 
 -- one byte into any decoder: what no run leads to gets 8 and comes back as it was
-abbrev pub feeding : Decoder → ℕ → Decoder × Event
-feeding d b = renamed (machine.feeding (heldOf d) b)
+abbrev pub feedingDecoder : Decoder → ℕ → Decoder × Event
+feedingDecoder d b = renamed (machine.feeding (heldOf d) b)
 
 -- the same as callers see it
 abbrev pub fedOf : Decoder × Event → Fed
 fedOf x = record { heard = heardOf (x .1); next = x .0 }
 
 abbrev pub fed : Decoder → ℕ → Fed
-fed d b = fedOf (feeding d b)
-
--- an answer with no frame
-abbrev pub frameless : Answer → Decoder → Fed
-frameless answer next = record { heard = record { answer = answer; frame = noFrame }; next = next }
+fed d b = fedOf (feedingDecoder d b)

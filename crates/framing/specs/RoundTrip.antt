@@ -15,9 +15,9 @@ use Rattle.line.specs.Runs.{says}
 use Rattle.line.specs.Encode.{wireOf, encoded}
 use Rattle.line.specs.machine.Room.{dataRoom}
 use Rattle.line.specs.machine.Frames.{padded, frameOf, heardOf}
-use Rattle.framing.specs.Feed.{fresh}
+use Rattle.framing.specs.Feed.{freshDecoder}
 use Rattle.line.specs.machine.Demand.{framesHeard}
-use Rattle.framing.specs.Demand.{hears}
+use Rattle.framing.specs.Demand.{decoderHears}
 use Rattle.line.specs.declared.frame.Frame.{Frame}
 use Rattle.line.specs.declared.frame.Answer.the-variants.{Found}
 use Rattle.line.specs.declared.frame.Heard.{Heard}
@@ -57,7 +57,7 @@ heardBack h = record {
 -- behind whole pieces, a new decoder hears what those say, then silence up to the last byte that was written, and there the frame
 abbrev pub HeardBehind : Handed → List Piece → ℕ → List ℕ → Type 0
 HeardBehind h ps count after =
-    says hears fresh (joined ps ++ take count after) ≡ map heardOf (saidBy ps) ++ (replicate (count - 1) (heardOf silence) ++ (heardBack h ∷ []))
+    says decoderHears freshDecoder (joined ps ++ take count after) ≡ map heardOf (saidBy ps) ++ (replicate (count - 1) (heardOf silence) ++ (heardBack h ∷ []))
 
 -- a frame is none of some frames
 abbrev pub Lacks : Frame → List Frame → Type 0
@@ -66,4 +66,4 @@ Lacks f (g ∷ gs) = (f ≢ g) × Lacks f gs
 
 -- a new decoder, fed what was written and no more, finds other frames at most: data can hold the bytes of one
 abbrev pub NotFound : Handed → ℕ → List ℕ → Type 0
-NotFound h count after = Lacks (frameOf (written h)) (framesHeard (says hears fresh (take count after)))
+NotFound h count after = Lacks (frameOf (written h)) (framesHeard (says decoderHears freshDecoder (take count after)))

@@ -14,7 +14,7 @@ use types::read_delimiter;
 ghost use mathlib.Core.Path.{_≡_};
 ghost use lib.ListN.{set};
 ghost use Rattle.types.specs.Delimiter.{delimiterOf};
-ghost use Rattle.line.specs.machine.Step.{over, hunted, preambled, delimited, mixed, addressed, counted, loaded, checked, movedAt, storedAt};
+ghost use Rattle.line.specs.machine.Step.{over, hunted, preambled, delimited, mixed, addressed, byteCounted, loaded, checked, movedAt, storedAt};
 
 fn piece_over(ended: Ended) -> Moved
     ensures { λ r. ⌜ r ≡ over ended ⌝ }
@@ -119,7 +119,7 @@ fn address(head: Head, received: u8, byte: u8) -> Moved
 }
 
 fn byte_count(head: Head, command: u8, byte: u8) -> Moved
-    ensures { λ r. ⌜ r ≡ counted head command byte ⌝ }
+    ensures { λ r. ⌜ r ≡ byteCounted head command byte ⌝ }
 {
     let mixed = mix(head, byte);
     if byte == 0 {

@@ -12,7 +12,8 @@ use line::State;
 use refusal::Refusal;
 ghost use mathlib.Core.Path.{_≡_};
 ghost use Rattle.line.specs.machine.Feed.{settled};
-ghost use Rattle.framing.specs.Feed.{fresh, reachable, frameless, renamed, fedOf, fed};
+ghost use Rattle.framing.specs.Feed.{freshDecoder, decoderReachable, renamed, fedOf, fed};
+ghost use Rattle.framing.specs.Code.{frameless};
 
 // The bytes are those of the address and of the data, zero where nothing was read.
 pub struct Decoder {
@@ -62,7 +63,7 @@ fn ended_with(moved: Moved, bytes: [u8; ROOM]) -> Fed
 
 impl Decoder {
     pub fn new() -> Decoder
-        ensures { λ r. ⌜ r ≡ fresh ⌝ }
+        ensures { λ r. ⌜ r ≡ freshDecoder ⌝ }
     {
         Decoder {
             state: State::Hunting,
@@ -72,14 +73,14 @@ impl Decoder {
 
     // Forgets what was read, also in a value that no run of bytes leads to.
     pub fn reset(self) -> Decoder
-        ensures { λ r. ⌜ r ≡ fresh ⌝ }
+        ensures { λ r. ⌜ r ≡ freshDecoder ⌝ }
     {
         Decoder::new()
     }
 
     // Whether some run of bytes leads a new decoder to this value.
     pub fn is_reachable(self) -> bool
-        ensures { λ r. ⌜ r ≡ reachable self ⌝ }
+        ensures { λ r. ⌜ r ≡ decoderReachable self ⌝ }
     {
         let state = self.state;
         let bytes = self.bytes;

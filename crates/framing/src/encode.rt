@@ -19,7 +19,7 @@ ghost use Rattle.octets.specs.Put.{put};
 ghost use Rattle.types.specs.Address.{addressLength, isLong};
 ghost use Rattle.line.specs.Layout.{preambles};
 ghost use Rattle.line.specs.Encode.{wireOf, layout, total, encoded};
-ghost use Rattle.framing.specs.Head.{head};
+ghost use Rattle.framing.specs.Code.{head};
 
 fn length_of(address: Address) -> usize
     ensures { λ r. ⌜ r ≡ addressLength (isLong address) ⌝ }

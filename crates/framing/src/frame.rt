@@ -7,12 +7,12 @@ use types::Address;
 use types::consts::MAX_DATA_LENGTH;
 ghost use mathlib.Core.Path.{_≡_};
 ghost use lib.ListN.{length, take, drop};
-ghost use Rattle.line.specs.machine.Room.{addressRoom, dataRoom, room};
+ghost use Rattle.line.specs.machine.Room.{addressRoom, dataRoom, decoderRoom};
 ghost use Rattle.line.specs.machine.Frames.{padded, frameOf, wireAt};
 
 // The first bytes of the data, and zeros.
 fn data_of(bytes: &[u8], n: u8) -> [u8; MAX_DATA_LENGTH]
-    requires { ⌜ length (now bytes) ≡ room ⌝ }
+    requires { ⌜ length (now bytes) ≡ decoderRoom ⌝ }
     ensures { λ r. ⌜ r ≡ padded dataRoom (take n (drop addressRoom (now (bytes .entry)))) ⌝ }
 {
     let mut data = [0u8; MAX_DATA_LENGTH];
@@ -23,7 +23,7 @@ fn data_of(bytes: &[u8], n: u8) -> [u8; MAX_DATA_LENGTH]
 
 // The frame that the 260 bytes hold at its check byte.
 pub(crate) fn frame_of(head: Head, command: u8, n: u8, bytes: &[u8]) -> Frame
-    requires { ⌜ length (now bytes) ≡ room ⌝ }
+    requires { ⌜ length (now bytes) ≡ decoderRoom ⌝ }
     ensures { λ r. ⌜ r ≡ frameOf (wireAt head command n (now (bytes .entry))) ⌝ }
 {
     let frame_type = head.frame_type;

@@ -4,7 +4,7 @@ use refusal::Refusal;
 use types::FrameType;
 ghost use mathlib.Core.Path.{_≡_};
 ghost use Rattle.octets.specs.Part.{partOf};
-ghost use Rattle.framing.specs.Payload.{judgementOf, judged, payload, payloadPart, typed};
+ghost use Rattle.framing.specs.Payload.{judgementOf, judged, payloadJudgement, payloadPart, typed};
 
 pub enum PayloadVerdict {
     Carried,
@@ -31,7 +31,7 @@ fn status_verdict(data: &[u8]) -> PayloadVerdict
 // Whether the data carry a payload. Only a device's frames have status bytes, so a request is refused
 // before its data are looked at.
 pub fn payload_verdict(frame_type: FrameType, data: &[u8]) -> PayloadVerdict
-    ensures { λ r. ⌜ judgementOf r ≡ payload «frame_type» (now («data» .entry)) ⌝ }
+    ensures { λ r. ⌜ judgementOf r ≡ payloadJudgement «frame_type» (now («data» .entry)) ⌝ }
 {
     match frame_type {
         FrameType::Request => PayloadVerdict::Refused(Refusal::WrongFrame),

@@ -13,7 +13,7 @@ ghost use mathlib.Core.Path.{_≡_};
 ghost use mathlib.Core.Bool.{true};
 ghost use Prim.Native.Nat.{_≤_};
 ghost use lib.ListN.{length, drop};
-ghost use Rattle.line.specs.machine.Room.{addressRoom, room};
+ghost use Rattle.line.specs.machine.Room.{addressRoom, decoderRoom};
 ghost use Rattle.line.specs.machine.Reachable.{claim, noClaim, claimOf, allZero, isClear, isRight, reachableAt};
 
 // So many bytes at a time: a multiple of what vector registers hold.
@@ -124,7 +124,7 @@ fn is_zero_from(bytes: &[u8], from: usize) -> bool
 // check, nor does the order, so that command and count come first and whole strides are mixed: behind the
 // four odd bytes in front there is place for them.
 fn is_right(claim: Claim, bytes: &[u8]) -> bool
-    requires { ⌜ (claim .address ≤ addressRoom) × (length (now bytes) ≡ room) ⌝ }
+    requires { ⌜ (claim .address ≤ addressRoom) × (length (now bytes) ≡ decoderRoom) ⌝ }
     ensures { λ r. ⌜ (isClear claim (now (bytes .entry)) ≡ true → r ≡ isRight claim (now (bytes .entry))) ⌝ }
 {
     let start = claim.start ^ claim.command ^ claim.count;

@@ -80,7 +80,7 @@ accepted-reachable : (block : List ℕ) → accepted block ≡ true → reachabl
 unfolding accepted
 accepted-reachable block a = and-second (eqb (headerOf (stateIn block)) (headerIn block)) (reachable (heldIn block)) a
 
-accepted-size : (block : List ℕ) → accepted block ≡ true → length block ≡ blockSize
+pub accepted-size : (block : List ℕ) → accepted block ≡ true → length block ≡ blockSize
 unfolding reachableAt
 accepted-size block a =
     let e : length (drop 6 block) ≡ 260 = eqb-true (length (drop 6 block)) 260 (and-first (eqb (length (drop 6 block)) 260) _ (accepted-reachable block a)) in

@@ -7,7 +7,7 @@ use lib.ListN.{length, take, drop, replicate}
 use Rattle.octets.specs.Digits.{digits, fromDigits}
 use Rattle.octets.specs.Put.{put}
 use Rattle.line.specs.Events.{Event}
-use Rattle.line.specs.machine.Room.{room}
+use Rattle.line.specs.machine.Room.{decoderRoom}
 use Rattle.line.specs.machine.Feed.{Held, holding, reachable, stepped}
 use Rattle.line.specs.declared.state.State.{State}
 use Rattle.host.specs.Header.{headerOf, stateAt}
@@ -18,7 +18,7 @@ abbrev pub headerSize : ℕ
 headerSize = 6
 
 abbrev pub blockSize : ℕ
-blockSize = headerSize + room
+blockSize = headerSize + decoderRoom
 
 -- what a decoder holds, as a block
 abbrev pub blockOf : Held → List ℕ

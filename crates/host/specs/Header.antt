@@ -1,5 +1,5 @@
 -- Document 01, 'For the C host': the 48 bits in front of a state block, and which state they say.
-use Prim.Native.Nat.{ℕ, _+_}
+use Prim.Native.Nat.{ℕ}
 use mathlib.Core.Bool.{Bool, true, false, cond}
 use mathlib.Core.List.{[], _∷_}
 use lib.Dec.{eqb}
@@ -19,8 +19,7 @@ use Rattle.line.specs.declared.state.State.the-variants.{
   Data,
   Checksum,
 }
-use Rattle.host.specs.declared.block_header.Fields.{Fields}
-use Rattle.host.specs.Bits.{in-bits, packed, field}
+use Rattle.host.specs.Bits.{ofWidth, sideBySide, field}
 
 abbrev pub longBit : Bool → ℕ
 longBit false = 0
@@ -29,15 +28,11 @@ longBit true = 1
 -- phase, type, long, preamble count, address bytes received, data expected, data received, command, running check, and four zero bits
 abbrev pub bits : ℕ → ℕ → ℕ → ℕ → ℕ → ℕ → ℕ → ℕ → ℕ → ℕ
 bits phase type long preambles address expected received command check =
-    packed (in-bits 3 phase ∷ in-bits 2 type ∷ in-bits 1 long ∷ in-bits 3 preambles ∷ in-bits 3 address ∷ in-bits 8 expected ∷ in-bits 8 received ∷ in-bits 8 command ∷ in-bits 8 check ∷ in-bits 4 0 ∷ [])
+    sideBySide (ofWidth 3 phase ∷ ofWidth 2 type ∷ ofWidth 1 long ∷ ofWidth 3 preambles ∷ ofWidth 3 address ∷ ofWidth 8 expected ∷ ofWidth 8 received ∷ ofWidth 8 command ∷ ofWidth 8 check ∷ ofWidth 4 0 ∷ [])
 
 -- behind a delimiter: what it said and the check so far, and no preamble count any more
 abbrev pub headBits : ℕ → Head → ℕ → ℕ → ℕ → ℕ → ℕ
 headBits phase h address expected received command = bits phase (typeNumber (h .«frame_type»)) (longBit (h .long)) 0 address expected received command (h .check)
-
--- what the code's fields come to: those that most phases have, and the counts, which stand at their places already
-abbrev pub summed : Fields → ℕ
-summed f = bits (f .phase) (f .«frame_type») (f .long) 0 (f .address) 0 0 0 (f .check) + f .counts
 
 -- the phases from 0; the address stays received behind its phase, and whatever is not yet read is zero
 unfoldable pub headerOf : State → ℕ

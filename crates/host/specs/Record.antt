@@ -18,14 +18,14 @@ use Rattle.refusal.specs.declared.Refusal.the-variants.{
 use Rattle.types.specs.Delimiter.{typeNumber}
 use Rattle.types.specs.Address.{readAddress, addressBytes}
 use Rattle.line.specs.Layout.{Wire}
-use Rattle.line.specs.Events.{Event, silence, found, refused}
+use Rattle.line.specs.Events.{Event, silence, found, rejected}
 use Rattle.line.specs.machine.Room.{addressRoom, dataRoom}
-use Rattle.host.specs.Bits.{in-bits, packed}
+use Rattle.host.specs.Bits.{ofWidth, sideBySide}
 use Rattle.host.specs.Header.{longBit}
 
 -- the first byte: kind, type, long, and three zero bits
 abbrev pub firstOf : ℕ → ℕ → ℕ → ℕ
-firstOf kind type long = packed (in-bits 2 kind ∷ in-bits 2 type ∷ in-bits 1 long ∷ in-bits 3 0 ∷ [])
+firstOf kind type long = sideBySide (ofWidth 2 kind ∷ ofWidth 2 type ∷ ofWidth 1 long ∷ ofWidth 3 0 ∷ [])
 
 -- kind 0, a frame: its address as we write it, the command, the count and the data
 abbrev pub frameRecord : Wire → List ℕ
@@ -49,7 +49,7 @@ refusalRecord (ResponseCode c) = []
 unfoldable pub recordOf : Event → List ℕ
 recordOf silence = []
 recordOf (found w) = frameRecord w
-recordOf (refused r) = refusalRecord r
+recordOf (rejected r) = refusalRecord r
 
 -- room for the longest: first byte, address, command, count and data
 abbrev pub recordRoom : ℕ

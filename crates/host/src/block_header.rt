@@ -9,7 +9,8 @@ ghost use mathlib.Core.Path.{_≡_};
 ghost use mathlib.Core.List.{[], _∷_};
 ghost use Rattle.octets.specs.Digits.{digits, fromDigits};
 ghost use Rattle.types.specs.Address.{addressLength};
-ghost use Rattle.host.specs.Header.{longBit, bits, headBits, summed, headerOf, typeAt, headAt, stateAt};
+ghost use Rattle.host.specs.Header.{longBit, bits, headBits, headerOf, typeAt, headAt, stateAt};
+ghost use Rattle.host.specs.Code.{summed};
 
 // The bit that a block and a record have for a long address.
 pub(crate) fn long_bit(long: bool) -> u8

@@ -27,7 +27,7 @@ use Rattle.line.specs.declared.frame.Heard.{Heard}
 use Rattle.line.proofs.frame.Heard as F
 use Rattle.line.proofs.frame.Heard.Laws as F′
 use Rattle.lent.specs.declared.keep.Kept.{Kept}
-use Rattle.lent.specs.Listen.{keeping}
+use Rattle.lent.specs.Code.{keeping}
 use Rattle.lent.proofs.keep.Kept as S
 use Rattle.lent.proofs.keep.Kept.Laws as S′
 use Rattle.lent.proofs.keep.waiting as waiting

@@ -4,7 +4,7 @@ use native.Mathlib.Omega.{arith}
 use mathlib.Core.Path.{_≡_, refl, sym, ap, ap₂, _∙_}
 use mathlib.Core.Bool.{Bool, true, false, cond}
 use mathlib.Core.List.{List, [], _∷_, _++_}
-use lib.ListN.{length, take, drop}
+use lib.ListN.{length, take, drop, replicate}
 use lib.Seq.{take-at, drop-at}
 use lib.Dec.{ltb}
 use borrow.Author.Tests.{lt-ltb, le-ltb, ltb-false}
@@ -25,6 +25,11 @@ either : {A : Type 0} {o : A} (P : Type 0) (x : Bool) {a b : A} → (x ≡ true 
 either P true f g e = f refl e
 either P false f g e = g refl e
 
+-- document 01, of 256 data bytes and no buffer: 1 is tested before 2
+pub long-before-small : (t : FrameType) (a : Address) (c n : ℕ) → encoded t a c (replicate 256 0) n [] ≡ ends (refused 1 []) []
+unfolding encoded
+long-before-small t a c n = refl
+
 module _ (t : FrameType) (a : Address) (c : ℕ) (ds : List ℕ) (n : ℕ) (buffer : List ℕ) where
   -- a call that is refused has written nothing
   pub encoded-untouched : (number : ℕ) (values after : List ℕ) → encoded t a c ds n buffer ≡ ends (refused number values) after → after ≡ buffer
@@ -44,7 +49,7 @@ module _ (t : FrameType) (a : Address) (c : ℕ) (ds : List ℕ) (n : ℕ) (buff
   encoded-whole count after =
       either (Whole t a c ds n buffer count after) (ltb 255 (length ds)) (λ _ f. never f)
       (λ p. either (Whole t a c ds n buffer count after) (ltb (length buffer) size) (λ _ f. never f)
-      (λ q f. done-whole (ltb-false 255 (length ds) p) (ltb-false (length buffer) size q) f))
+      (λ q f. done-whole (ltb-false 255 (length ds) p) (ltb-false (length buffer) size q) refl refl f))
     where
       size : ℕ
       size = total n (isLong a) (length ds)
@@ -52,8 +57,9 @@ module _ (t : FrameType) (a : Address) (c : ℕ) (ds : List ℕ) (n : ℕ) (buff
       frame : List ℕ
       frame = layout n (wireOf t a c ds)
 
-      done-whole : length ds ≤ 255 → size ≤ length buffer → wrote frame buffer ≡ ends (done (count ∷ [])) after → Whole t a c ds n buffer count after
-      done-whole h k f =
+      -- a count and bytes that are those of the frame
+      done-whole : {written : ℕ} {bytes : List ℕ} → length ds ≤ 255 → size ≤ length buffer → written ≡ length frame → bytes ≡ frame ++ drop (length frame) buffer → ends (done (written ∷ [])) bytes ≡ ends (done (count ∷ [])) after → Whole t a c ds n buffer count after
+      done-whole h k x y f =
           let m : count ≡ length frame = cc in
           let b : after ≡ frame ++ drop (length frame) buffer = cc in
           record {

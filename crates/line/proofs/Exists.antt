@@ -35,7 +35,7 @@ use Rattle.line.specs.Pieces.{
   tail,
   Cut,
 }
-use Rattle.line.specs.Runs.{ends}
+use Rattle.line.specs.Runs.{endsIn}
 use Rattle.line.proofs.Scan.{
   Phase,
   addressing,
@@ -99,7 +99,7 @@ module _ (n b : ℕ) (enough : 5 ≤ n) (small : b < 256) where
     where
       by : (y : Bool) → eqb 0 b ≡ y → Sound (within n (counting t l ad c)) b (cond y (within n (checking (wire t l ad c []))) (within n (loading t l ad c b [])), none)
       by true e =
-          sound-on (counting t l ad c) (checking (wire t l ad c [])) k (record { addressed = z; counted = omega arith })
+          sound-on (counting t l ad c) (checking (wire t l ad c [])) k (record { addressFits = z; countFits = omega arith })
           (rw (sym (eqb-true 0 b e)) (behind (delimiter t l) ad (c ∷ []) (0 ∷ [])))
       by false e =
           sound-on (counting t l ad c) (loading t l ad c b []) k (z, omega (arith, eqb-false 0 b e)) (behind (delimiter t l) ad (c ∷ []) (b ∷ []))
@@ -107,7 +107,7 @@ module _ (n b : ℕ) (enough : 5 ≤ n) (small : b < 256) where
       let count-small : m < 256 = bytes-right ad (c ∷ m ∷ ds) (k .1) .1 .0 in
       one-more (λ (s : Scan). Sound (within n (loading t l ad c m ds)) b (s, none)) ds b m
       (within n (checking (wire t l ad c (ds ++ (b ∷ []))))) (within n (loading t l ad c m (ds ++ (b ∷ [])))) (z .1)
-      (λ full. sound-on (loading t l ad c m ds) (checking (wire t l ad c (ds ++ (b ∷ [])))) k (record { addressed = z .0; counted = omega (arith, full, count-small) })
+      (λ full. sound-on (loading t l ad c m ds) (checking (wire t l ad c (ds ++ (b ∷ [])))) k (record { addressFits = z .0; countFits = omega (arith, full, count-small) })
       (ap (λ (j : ℕ). delimiter t l ∷ (ad ++ (c ∷ j ∷ (ds ++ (b ∷ []))))) full ∙ behind (delimiter t l) ad (c ∷ m ∷ ds) (b ∷ [])))
       (λ short. sound-on (loading t l ad c m ds) (loading t l ad c m (ds ++ (b ∷ []))) k (z .0, short) (behind (delimiter t l) ad (c ∷ m ∷ ds) (b ∷ [])))
   sound-within (checking w) z k = by (eqb b (checkOf w)) refl
@@ -146,11 +146,11 @@ sound (within n p) b f k = sound-within n b (f .0) k p (f .1) (f .2)
 pub fine-scan : (s : Scan) (b : ℕ) → Fine s → b < 256 → Fine ((scan s b) .0)
 fine-scan s b f k = sound s b f k .fine
 
-pub fine-ends : (s : Scan) (bs : List ℕ) → Fine s → Bytes bs → Fine (ends scan s bs)
+pub fine-ends : (s : Scan) (bs : List ℕ) → Fine s → Bytes bs → Fine (endsIn scan s bs)
 fine-ends s [] f k = f
 fine-ends s (b ∷ bs) f k = fine-ends ((scan s b) .0) bs (fine-scan s b f (k .0)) (k .1)
 
-pub held-ends : (s : Scan) → Fine s → ends scan hunt (held s) ≡ s
+pub held-ends : (s : Scan) → Fine s → endsIn scan hunt (held s) ≡ s
 held-ends s f = rw append-nil at (steps-ends (held-steps s f) [])
 
 pub held-bytes : (s : Scan) → Fine s → Bytes (held s)
@@ -170,20 +170,20 @@ finish (addressing t l ad) z k =
     let j : ℕ = addressLength l - length ad in
     record {
       whole = wire t l (ad ++ replicate j 0) 0 [];
-      fits = record { addressed = length-append ad (replicate j 0) ∙ rw length-replicate (omega arith); counted = omega arith };
+      fits = record { addressFits = length-append ad (replicate j 0) ∙ rw length-replicate (omega arith); countFits = omega arith };
       noughts = j + 2;
       begins = ap (λ (bs : List ℕ). delimiter t l ∷ bs) (append-assoc ad (replicate j 0) (0 ∷ 0 ∷ []) ∙ ap (λ (bs : List ℕ). ad ++ bs) (replicate-append-replicate j 2 0));
     }
-finish (commanding t l ad) z k = record { whole = wire t l ad 0 []; fits = record { addressed = z; counted = omega arith }; noughts = 2; begins = refl }
+finish (commanding t l ad) z k = record { whole = wire t l ad 0 []; fits = record { addressFits = z; countFits = omega arith }; noughts = 2; begins = refl }
 finish (counting t l ad c) z k =
-    record { whole = wire t l ad c []; fits = record { addressed = z; counted = omega arith }; noughts = 1; begins = behind (delimiter t l) ad (c ∷ []) (0 ∷ []) }
+    record { whole = wire t l ad c []; fits = record { addressFits = z; countFits = omega arith }; noughts = 1; begins = behind (delimiter t l) ad (c ∷ []) (0 ∷ []) }
 finish (loading t l ad c m ds) z k =
     let j : ℕ = m - length ds in
     let full : length (ds ++ replicate j 0) ≡ m = length-append ds (replicate j 0) ∙ rw length-replicate (omega arith) in
     let count-small : m < 256 = bytes-right ad (c ∷ m ∷ ds) (k .1) .1 .0 in
     record {
       whole = wire t l ad c (ds ++ replicate j 0);
-      fits = record { addressed = z .0; counted = omega (arith, full, count-small) };
+      fits = record { addressFits = z .0; countFits = omega (arith, full, count-small) };
       noughts = j;
       begins = ap (λ (i : ℕ). delimiter t l ∷ (ad ++ (c ∷ i ∷ (ds ++ replicate j 0)))) full ∙ behind (delimiter t l) ad (c ∷ m ∷ ds) (replicate j 0);
     }

@@ -14,7 +14,7 @@ use Rattle.types.specs.Delimiter.{delimiter}
 use Rattle.types.specs.Address.{addressLength}
 use Rattle.types.proofs.Delimiters.{delimiter-back, delimiter-small}
 use Rattle.line.specs.Layout.{Wire, Fits, preambles, body}
-use Rattle.line.specs.Runs.{ends}
+use Rattle.line.specs.Runs.{endsIn}
 use Rattle.line.proofs.Scan.{
   Phase,
   addressing,
@@ -46,9 +46,9 @@ steps-append : {s s′ s″ : Scan} {bs cs : List ℕ} → Steps s bs s′ → S
 steps-append stay r = r
 steps-append (go e q) r = go e (steps-append q r)
 
-pub steps-ends : {s s′ : Scan} {bs : List ℕ} → Steps s bs s′ → (cs : List ℕ) → ends scan s (bs ++ cs) ≡ ends scan s′ cs
+pub steps-ends : {s s′ : Scan} {bs : List ℕ} → Steps s bs s′ → (cs : List ℕ) → endsIn scan s (bs ++ cs) ≡ endsIn scan s′ cs
 steps-ends stay cs = refl
-steps-ends (go e q) cs = rw (ends, e) (steps-ends q cs)
+steps-ends (go e q) cs = rw (endsIn, e) (steps-ends q cs)
 
 -- preamble bytes
 more-preambles : (j i n : ℕ) → i + j ≡ n → Steps (pre i) (preambles j) (pre n)
@@ -125,7 +125,7 @@ module _ (n : ℕ) (enough : 5 ≤ n) (t : FrameType) (l : Bool) where
 
 pub to-ready : (n : ℕ) (w : Wire) → 5 ≤ n → Fits w → Steps hunt (preambles n ++ body w) (within n (checking w))
 to-ready n w h f =
-    past-count n h (w .frameType) (w .long) (w .address) (f .addressed) (w .command) (loads n h (w .frameType) (w .long) (w .address) (f .addressed) (w .command) (w .payload))
+    past-count n h (w .frameType) (w .long) (w .address) (f .addressFits) (w .command) (loads n h (w .frameType) (w .long) (w .address) (f .addressFits) (w .command) (w .payload))
 
 phase-steps : (n : ℕ) (p : Phase) → 5 ≤ n → Sized p → Steps hunt (preambles n ++ opened p) (within n p)
 phase-steps n (addressing t l ad) h z = to-addressing n h t l ad z

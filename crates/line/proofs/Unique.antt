@@ -38,17 +38,17 @@ use Rattle.line.specs.Pieces.{
   Cut,
 }
 use Rattle.line.specs.Events.{Event, silence, silent, dictated}
-use Rattle.line.specs.Runs.{says, ends}
+use Rattle.line.specs.Runs.{says, endsIn}
 use Rattle.line.proofs.Scan.{Scan, hunt, pre, within, checking, scanWithin, scan, told}
 use Rattle.line.proofs.Steps.{Steps, stay, go, steps-ends, to-preambles, to-ready}
 
 -- no piece ends before a piece's last byte, and there it ends
-record Passes (p : Piece) : Type 0 where
-  before : Scan
-  along : Steps hunt (front p) before
-  scans : scan before (last p) ≡ (hunt, some p)
+pub record Passes (p : Piece) : Type 0 where
+  pub before : Scan
+  pub along : Steps hunt (front p) before
+  pub scans : scan before (last p) ≡ (hunt, some p)
 
-passes : (p : Piece) → Holds p → Passes p
+pub passes : (p : Piece) → Holds p → Passes p
 unfolding scan scanWithin
 passes (noise b) h = record { before = hunt; along = stay; scans = rw (ne-eqb b 0xFF h) }
 passes (shortRun n b) h =
@@ -78,7 +78,7 @@ proper (a ∷ t) (b ∷ fr) cs d n e =
     let h = head-eq-of-cons-eq e in
     (r .0, cc (r .1))
 
-rest-steps : {t : List ℕ} → Rest t → (s : Scan) × Steps hunt t s
+pub rest-steps : {t : List ℕ} → Rest t → (s : Scan) × Steps hunt t s
 rest-steps nothing = (hunt, stay)
 rest-steps (tail {t = t} w) =
     let r = proper t (front (w .piece)) (w .missing) (last (w .piece)) (w .lacking) (w .begins) in
@@ -105,11 +105,11 @@ says-given (p ∷ ps) t a r =
     let w = passes p (a .0) in
     rw regroup (steps-says (w .along) (last p ∷ (joined ps ++ t)) ∙ rw (w .scans, says-given ps t (a .1) r))
 
-pub scanned-whole : (ps : List Piece) → AllHold ps → ends scan hunt (joined ps) ≡ hunt
+pub scanned-whole : (ps : List Piece) → AllHold ps → endsIn scan hunt (joined ps) ≡ hunt
 scanned-whole [] a = refl
 scanned-whole (p ∷ ps) a =
     let w = passes p (a .0) in
-    rw append-assoc (steps-ends (w .along) (last p ∷ joined ps) ∙ rw (ends, w .scans) (scanned-whole ps (a .1)))
+    rw append-assoc (steps-ends (w .along) (last p ∷ joined ps) ∙ rw (endsIn, w .scans) (scanned-whole ps (a .1)))
 
 -- the events told
 nothings-told : (bs : List ℕ) (os : List (Option Piece)) → map told (nothings bs ++ os) ≡ silent bs ++ map told os

@@ -4,8 +4,10 @@ pub mod Padded
 pub mod Settled
 pub mod Image
 pub mod Demand
+pub mod Excluded
 pub mod Renamed
 pub mod Exact
 pub mod Small
 pub mod SourceAddress
 pub mod Source
+pub mod SourceStops

@@ -19,8 +19,8 @@ pub record Wire : Type 0 where
 
 -- the address has one byte or five, and the byte count one byte: a frame's data is at most 255 bytes
 pub record Fits (w : Wire) : Type 0 where
-  pub addressed : length (w .address) ≡ addressLength (w .long)
-  pub counted : length (w .payload) ≤ 255
+  pub addressFits : length (w .address) ≡ addressLength (w .long)
+  pub countFits : length (w .payload) ≤ 255
 
 -- N preamble bytes
 abbrev pub preambles : ℕ → List ℕ

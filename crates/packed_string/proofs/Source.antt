@@ -10,7 +10,7 @@ use lib.ListN.{length, getD, set, length-set}
 use lib.Bits.{bitAnd, bitOr, and-mask, or-shifted}
 use lib.Dec.{ltb, lit<}
 use borrow.Author.Tests.{ltb-true, ltb-false, lt-ltb}
-use Rattle.refusal.specs.Outcome.{ends, done, wrote}
+use Rattle.refusal.specs.Outcome.{Outcome, ends, done, wrote}
 use Rattle.octets.specs.Digits.{Below}
 use Rattle.octets.specs.Put.{put, firstParts}
 use Rattle.octets.specs.Source.{Run, comes, shiftRight, asU8, shiftLeft}
@@ -30,10 +30,10 @@ use Rattle.packed_string.proofs.Calls.{crate-packs, crate-unpacks}
 module _ (size : ℕ)
     (positive : 0 < size)
     (n : ℕ)
-    (turn : ℕ → ℕ → List ℕ → (List ℕ → Run) → Run)
+    (turn : ℕ → ℕ → List ℕ → (List ℕ → Run Outcome) → Run Outcome)
     (group : ℕ → List ℕ)
     (sized : (g : ℕ) → length (group g) ≡ size)
-    (turned : (g : ℕ) (dst : List ℕ) (rest : List ℕ → Run) → g < n → g * size + size ≤ length dst → turn g (g * size) dst rest ≡ rest (put dst (g * size) (group g))) where
+    (turned : (g : ℕ) (dst : List ℕ) (rest : List ℕ → Run Outcome) → g < n → g * size + size ≤ length dst → turn g (g * size) dst rest ≡ rest (put dst (g * size) (group g))) where
   loop-comes : (turns g : ℕ) (dst d : List ℕ) → d ≡ put dst 0 (firstParts group g) → g * size ≤ length dst → g + turns ≡ n
       → groupLoop size turn turns g (g * size) d ≡ comes (wrote (firstParts group (min n (length dst / size))) dst)
   loop-comes zero g dst d e h k =
@@ -70,7 +70,7 @@ module _ (size : ℕ)
 low-byte : (x k y : ℕ) → x * 2 ^ k < 65536 → y < 2 ^ k → asU8 (bitOr (shiftLeft 16 x k) y) ≡ (x * 2 ^ k + y) % 256
 low-byte x k y h low = ap asU8 (ap (λ (z : ℕ). bitOr z y) (mod-eq-of-lt h) ∙ or-shifted x k y low)
 
-store-bytes : (a b c d at : ℕ) (dst : List ℕ) (rest : List ℕ → Run) → a < 64 → b < 64 → c < 64 → d < 64 → at + 3 ≤ length dst → storeBytes a b c d at dst rest ≡ rest (put dst at (packGroup (a ∷ b ∷ c ∷ d ∷ [])))
+store-bytes : (a b c d at : ℕ) (dst : List ℕ) (rest : List ℕ → Run Outcome) → a < 64 → b < 64 → c < 64 → d < 64 → at + 3 ≤ length dst → storeBytes a b c d at dst rest ≡ rest (put dst at (packGroup (a ∷ b ∷ c ∷ d ∷ [])))
 store-bytes a b c d at dst rest ha hb hc hd h =
     let v0 = asU8 (bitOr (shiftLeft 16 a 2) (shiftRight b 4)) in
     let v1 = asU8 (bitOr (shiftLeft 16 b 4) (shiftRight c 2)) in
@@ -85,7 +85,7 @@ store-bytes a b c d at dst rest ha hb hc hd h =
     rw (lt-ltb at (length dst) (omega arith), lt-ltb (at + 1) (length dst₁) (omega arith), lt-ltb (at + 2) (length dst₂) (omega arith))
     (ap rest (stores-put dst at v0 (v1 ∷ v2 ∷ []) (omega arith) ∙ ap (put dst at) (rw (e0, e1, e2) (pack-group a b c d ha hb hc hd))))
 
-store-chars : (a b c d at : ℕ) (dst : List ℕ) (rest : List ℕ → Run) → asU8 a < 64 → asU8 b < 64 → asU8 c < 64 → asU8 d < 64 → at + 4 ≤ length dst → storeChars a b c d at dst rest ≡ rest (put dst at (map (charOf Crate) (asU8 a ∷ asU8 b ∷ asU8 c ∷ asU8 d ∷ [])))
+store-chars : (a b c d at : ℕ) (dst : List ℕ) (rest : List ℕ → Run Outcome) → asU8 a < 64 → asU8 b < 64 → asU8 c < 64 → asU8 d < 64 → at + 4 ≤ length dst → storeChars a b c d at dst rest ≡ rest (put dst at (map (charOf Crate) (asU8 a ∷ asU8 b ∷ asU8 c ∷ asU8 d ∷ [])))
 store-chars a b c d at dst rest ha hb hc hd h =
     let v0 = asU8 a + 0x20 in
     let v1 = asU8 b + 0x20 in
@@ -108,7 +108,7 @@ store-chars a b c d at dst rest ha hb hc hd h =
       lt-ltb (at + 3) (length dst₃) (omega arith),
     ) (ap rest (stores-put dst at v0 (v1 ∷ v2 ∷ v3 ∷ []) (omega arith)))
 
-decode-group : (a b c at : ℕ) (dst : List ℕ) (rest : List ℕ → Run) → a < 256 → b < 256 → c < 256 → at + 4 ≤ length dst → decodeGroup a b c at dst rest ≡ rest (put dst at (map (charOf Crate) (unpackGroup (a ∷ b ∷ c ∷ []))))
+decode-group : (a b c at : ℕ) (dst : List ℕ) (rest : List ℕ → Run Outcome) → a < 256 → b < 256 → c < 256 → at + 4 ≤ length dst → decodeGroup a b c at dst rest ≡ rest (put dst at (map (charOf Crate) (unpackGroup (a ∷ b ∷ c ∷ []))))
 decode-group a b c at dst rest ha hb hc h =
     let c0 = shiftRight a 2 in
     let c1 = bitOr (shiftLeft 16 (bitAnd a 0x03) 4) (shiftRight b 4) in
@@ -135,7 +135,7 @@ source-code src i = and-mask (getD src i 0x20 - 0x20) 6
 pub encode-is-source : (src dst : List ℕ) → sourceEncoded src dst ≡ comes (cratePacked src dst)
 encode-is-source src dst =
     let n = divCeil (length src) 4 in
-    let turned : (g : ℕ) (d : List ℕ) (rest : List ℕ → Run) → g < n → g * 3 + 3 ≤ length d → encodeTurn src g (g * 3) d rest ≡ rest (put d (g * 3) (packedGroup Crate src g)) =
+    let turned : (g : ℕ) (d : List ℕ) (rest : List ℕ → Run Outcome) → g < n → g * 3 + 3 ≤ length d → encodeTurn src g (g * 3) d rest ≡ rest (put d (g * 3) (packedGroup Crate src g)) =
     λ g d rest l h. rw (source-code src (g * 4), source-code src (g * 4 + 1), source-code src (g * 4 + 2), source-code src (g * 4 + 3)) (store-bytes _ _ _ _ (g * 3) d rest (code-below Crate _) (code-below Crate _) (code-below Crate _) (code-below Crate _) h) in
     loop-from-start 3 (lit< tt) n (encodeTurn src) (packedGroup Crate src) (packed-sized Crate src) turned dst
     ∙ ap comes (sym (crate-packs src dst (ap (λ (m : ℕ). min m (length dst / 3)) (sym (div-ceil (length src))))))
@@ -144,7 +144,7 @@ pub decode-is-source : (src dst : List ℕ) → Below 256 src → sourceDecoded 
 decode-is-source src dst bytes =
     let n = length src / 3 in
     let byte : (i : ℕ) → getD src i 0 < 256 = below-at 256 src bytes (lit< tt) in
-    let turned : (g : ℕ) (d : List ℕ) (rest : List ℕ → Run) → g < n → g * 4 + 4 ≤ length d → decodeTurn src g (g * 4) d rest ≡ rest (put d (g * 4) (unpackedGroup Crate src g)) =
+    let turned : (g : ℕ) (d : List ℕ) (rest : List ℕ → Run Outcome) → g < n → g * 4 + 4 ≤ length d → decodeTurn src g (g * 4) d rest ≡ rest (put d (g * 4) (unpackedGroup Crate src g)) =
     λ g d rest l h.
     rw (lt-ltb (g * 3) (length src) (omega arith), lt-ltb (g * 3 + 1) (length src) (omega arith), lt-ltb (g * 3 + 2) (length src) (omega arith)) (decode-group _ _ _ (g * 4) d rest (byte (g * 3)) (byte (g * 3 + 1)) (byte (g * 3 + 2)) h) in
     loop-from-start 4 (lit< tt) n (decodeTurn src) (unpackedGroup Crate src) (unpacked-sized Crate src) turned dst

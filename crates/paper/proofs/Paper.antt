@@ -2,11 +2,9 @@
 -- are computed as they stand; what a decoder hears is computed through the law that it hears what the scanner of the crate line gives.
 use Prim.Native.Nat.{ℕ}
 use mathlib.Core.Path.{_≡_, refl, ap, ap₂, _∙_}
-use mathlib.Core.Bool.{Bool, true, _&&_}
+use mathlib.Core.Bool.{true}
 use mathlib.Core.List.{List, [], _∷_, _++_, map}
-use lib.Dec.{ltb}
 use lib.ListN.{replicate}
-use borrow.Author.Tests.{ltb-true}
 use Rattle.octets.specs.Put.{firstParts}
 use Rattle.packed_string.specs.Group.{packGroup, unpackGroup}
 use Rattle.packed_string.specs.Plain.{badPlace}
@@ -14,13 +12,12 @@ use Rattle.packed_string.specs.Standard.{standardPacked}
 use Rattle.packed_string.specs.Text.{cratePacked, crateUnpacked}
 use Rattle.types.specs.Delimiter.{delimiterOf}
 use Rattle.types.specs.Address.{addressBytes}
-use Rattle.line.specs.Pieces.{Bytes}
 use Rattle.line.specs.Events.{silence}
-use Rattle.line.specs.Runs.{says, ends}
+use Rattle.line.specs.Runs.{says, endsIn}
+use Rattle.line.proofs.Bytes.{allSmall, bytes-given}
 use Rattle.line.proofs.Scan.{Scan, hunt, scanWithin, scan, told}
 use Rattle.line.specs.Encode.{encoded}
 use Rattle.line.specs.machine.Frames.{heardOf}
-use Rattle.line.proofs.machine.Zeros.{and-first, and-second}
 use Rattle.line.proofs.machine.Image.{real}
 use Rattle.line.specs.declared.frame.Heard.{Heard}
 use Rattle.framing.specs.Feed.{decoderOf}
@@ -42,20 +39,11 @@ use Rattle.paper.specs.Paper.{
   examples,
 }
 
--- a list of bytes, by computing
-abbrev allSmall : List ℕ → Bool
-allSmall [] = true
-allSmall (b ∷ bs) = ltb b 256 && allSmall bs
-
-small : (bs : List ℕ) → allSmall bs ≡ true → Bytes bs
-small [] e = tt
-small (b ∷ bs) e = (ltb-true b 256 (and-first (ltb b 256) (allSmall bs) e), small bs (and-second (ltb b 256) (allSmall bs) e))
-
 -- an example of reading, by what the scanner gives
-reads : (r : Reading) → allSmall (r .run) ≡ true → map heardOf (map told (says scan hunt (r .run))) ≡ replicate (r .quiet) (heardOf silence) ++ r .then → ends scan hunt (r .run) ≡ hunt
+reads : (r : Reading) → allSmall (r .run) ≡ true → map heardOf (map told (says scan hunt (r .run))) ≡ replicate (r .quiet) (heardOf silence) ++ r .then → endsIn scan hunt (r .run) ≡ hunt
     → reading r .comes ≡ reading r .said
 reads r k h e =
-    let s = small (r .run) k in
+    let s = bytes-given (r .run) k in
     ap₂ (λ (hs : List Heard) (d : Decoder). heard hs (d .state)) (heard-scanned (r .run) s ∙ h) (ends-scanned (r .run) s ∙ ap (λ (c : Scan). decoderOf (real c)) e)
 
 both : (x y : Shown) (xs ys : List Shown) → x ≡ y → xs ≡ ys → x ∷ xs ≡ y ∷ ys

@@ -16,8 +16,8 @@ use Rattle.line.specs.Events.{silence, refusal}
 use Rattle.line.specs.Runs as runs
 use Rattle.line.specs.Encode.{encoded}
 use Rattle.line.specs.machine.Frames.{padded, heardOf}
-use Rattle.framing.specs.Feed.{fresh}
-use Rattle.framing.specs.Demand.{hears}
+use Rattle.framing.specs.Feed.{freshDecoder}
+use Rattle.framing.specs.Demand.{decoderHears}
 use Rattle.line.specs.declared.state.State.{State}
 use Rattle.line.specs.declared.state.State.the-variants.{Hunting}
 use Rattle.line.specs.declared.frame.Heard.{Heard}
@@ -78,7 +78,7 @@ pub record Reading : Type 0 where
 
 abbrev pub reading : Reading → Example
 reading r = record {
-  comes = heard (runs.says hears fresh (r .run)) (runs.ends hears fresh (r .run) .state);
+  comes = heard (runs.says decoderHears freshDecoder (r .run)) (runs.endsIn decoderHears freshDecoder (r .run) .state);
   said = heard (replicate (r .quiet) (heardOf silence) ++ r .then) Hunting;
 }
 

@@ -25,8 +25,8 @@ use Rattle.types.specs.Address.{
   addressLength,
   readAddress,
   isLong,
-  reads,
-  refused,
+  addressRead,
+  addressRefused,
   decoded,
   firstByte,
   addressBytes,
@@ -125,18 +125,18 @@ limited-kept (Long m b f t n) e = let q : f % 64 ≡ f = cc in let r : n % 2 ^ 2
 
 -- written and then read, whatever stands behind: the same address comes back if it is within its limits, and only then
 module _ (a : Address) (rest : List ℕ) where
-  read-kept : decoded (isLong a) (addressBytes a ++ rest) ≡ reads (kept a) (addressLength (isLong a))
+  read-kept : decoded (isLong a) (addressBytes a ++ rest) ≡ addressRead (kept a) (addressLength (isLong a))
   read-kept =
       let bs = addressBytes a ++ rest in
       let n = addressLength (isLong a) in
-      ap (λ (t : Bool). cond t (refused 3 []) (reads (readAddress (isLong a) bs) n)) (le-ltb (length bs) n (omega (arith, length-append (addressBytes a) rest, length-address a)))
-      ∙ ap (λ (x : Address). reads x n) (back a rest)
+      ap (λ (t : Bool). cond t (addressRefused 3 []) (addressRead (readAddress (isLong a) bs) n)) (le-ltb (length bs) n (omega (arith, length-append (addressBytes a) rest, length-address a)))
+      ∙ ap (λ (x : Address). addressRead x n) (back a rest)
 
-  pub written-read : Limited a → decoded (isLong a) (addressBytes a ++ rest) ≡ reads a (addressLength (isLong a))
-  written-read h = read-kept ∙ ap (λ (x : Address). reads x (addressLength (isLong a))) (kept-limited a h)
+  pub written-read : Limited a → decoded (isLong a) (addressBytes a ++ rest) ≡ addressRead a (addressLength (isLong a))
+  written-read h = read-kept ∙ ap (λ (x : Address). addressRead x (addressLength (isLong a))) (kept-limited a h)
 
-  pub read-limited : decoded (isLong a) (addressBytes a ++ rest) ≡ reads a (addressLength (isLong a)) → Limited a
-  read-limited e = let both : reads (kept a) (addressLength (isLong a)) ≡ reads a (addressLength (isLong a)) = sym read-kept ∙ e in limited-kept a (cc)
+  pub read-limited : decoded (isLong a) (addressBytes a ++ rest) ≡ addressRead a (addressLength (isLong a)) → Limited a
+  read-limited e = let both : addressRead (kept a) (addressLength (isLong a)) ≡ addressRead a (addressLength (isLong a)) = sym read-kept ∙ e in limited-kept a (cc)
 
 -- the same of the bytes alone
 pub address-back : (a : Address) → Limited a → readAddress (isLong a) (addressBytes a) ≡ a

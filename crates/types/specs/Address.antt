@@ -38,16 +38,16 @@ isLong (Long master burst manufacturer device number) = true
 
 -- what reading an address comes to: the address and the bytes it took, or a refusal's number and values
 pub data AddressReading : Type 0 where
-  reads : Address → ℕ → AddressReading
-  refused : ℕ → List ℕ → AddressReading
+  addressRead : Address → ℕ → AddressReading
+  addressRefused : ℕ → List ℕ → AddressReading
 
 abbrev pub readOf : AddressRead → AddressReading
-readOf (Read address used) = reads address used
-readOf (Refused r) = refused (numberOf r) (valuesOf r)
+readOf (Read address used) = addressRead address used
+readOf (Refused r) = addressRefused (numberOf r) (valuesOf r)
 
 -- 3 if there are fewer bytes than the address has; bytes past it are ignored
 abbrev pub decoded : Bool → List ℕ → AddressReading
-decoded long bs = cond (ltb (length bs) (addressLength long)) (refused 3 []) (reads (readAddress long bs) (addressLength long))
+decoded long bs = cond (ltb (length bs) (addressLength long)) (addressRefused 3 []) (addressRead (readAddress long bs) (addressLength long))
 
 -- the two bits over a field of the lower ones
 abbrev pub firstByte : MasterRole → Bool → ℕ → ℕ

@@ -17,7 +17,7 @@ pub enum MasterRole {
 pub(crate) fn master_of(first: u8) -> MasterRole
     ensures { λ r. ⌜ r ≡ masterOf first ⌝ }
 {
-    if has_bit(first, PRIMARY_MASTER_BIT) {
+    if has_bit(first, 7) {
         MasterRole::Primary
     } else {
         MasterRole::Secondary
@@ -27,7 +27,7 @@ pub(crate) fn master_of(first: u8) -> MasterRole
 pub(crate) fn burst_of(first: u8) -> bool
     ensures { λ r. ⌜ r ≡ bit 6 first ⌝ }
 {
-    has_bit(first, BURST_MODE_BIT)
+    has_bit(first, 6)
 }
 
 // Of a short address.

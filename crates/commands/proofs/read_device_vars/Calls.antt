@@ -6,19 +6,19 @@ use lib.ListN.{length, drop}
 use borrow.Author.Tests.{lt-ltb, le-ltb}
 use Rattle.refusal.specs.Outcome.{wrote, refuses}
 use Rattle.packed_string.specs.declared.text_group.Mode.the-variants.{Crate, Standard}
-use Rattle.commands.specs.Variables.{requested, groupsRead, refusedRead, variablesRead}
+use Rattle.commands.specs.Variables.{codesRequested, groupsRead, variablesRefused, variablesRead}
 
 module _ (codes buffer : List ℕ) where
-  pub requests-too-many : 8 < length codes → requested codes buffer ≡ refuses 1 [] buffer
-  unfolding requested
+  pub requests-too-many : 8 < length codes → codesRequested codes buffer ≡ refuses 1 [] buffer
+  unfolding codesRequested
   requests-too-many h = rw (lt-ltb 8 (length codes) h)
 
-  pub requests-no-room : length codes ≤ 8 → length buffer < length codes → requested codes buffer ≡ refuses 2 [] buffer
-  unfolding requested
+  pub requests-no-room : length codes ≤ 8 → length buffer < length codes → codesRequested codes buffer ≡ refuses 2 [] buffer
+  unfolding codesRequested
   requests-no-room h k = rw (le-ltb 8 (length codes) h, lt-ltb (length buffer) (length codes) k)
 
-  pub requests : length codes ≤ 8 → length codes ≤ length buffer → requested codes buffer ≡ wrote codes buffer
-  unfolding requested
+  pub requests : length codes ≤ 8 → length codes ≤ length buffer → codesRequested codes buffer ≡ wrote codes buffer
+  unfolding codesRequested
   requests h k = rw (le-ltb 8 (length codes) h, le-ltb (length buffer) (length codes) k)
 
 module _ (bs : List ℕ) where
@@ -26,7 +26,7 @@ module _ (bs : List ℕ) where
   unfolding variablesRead
   crate-reads = refl
 
-  pub standard-reads-none : length bs < 1 → variablesRead Standard bs ≡ refusedRead 3 []
+  pub standard-reads-none : length bs < 1 → variablesRead Standard bs ≡ variablesRefused 3 []
   unfolding variablesRead
   standard-reads-none h = rw (lt-ltb (length bs) 1 h)
 

@@ -20,6 +20,8 @@ use Rattle.commands.proofs.read_device_vars.decode_data.Kinds as decode
 use Rattle.commands.proofs.read_device_vars.decode_data.Reads as decode-data-reads
 use Rattle.commands.proofs.read_device_vars.read_frame.Kinds as read-frame-kinds
 use Rattle.commands.proofs.read_device_vars.read_frame.Reads as read-frame-reads
+use Rattle.commands.proofs.read_device_vars.read_response.Kinds as read-response-kinds
+use Rattle.commands.proofs.read_device_vars.read_response.Reads as read-response-reads
 
 abbrev response : PayloadVerdict → ℕ → List DeviceVariable → ReadDeviceVarsResponse
 response verdict count variables = record { verdict = verdict; count = count; variables = variables }
@@ -41,3 +43,6 @@ decode-data κs a r s x y = λ p q. (response-known r s (p ∙ sym q), refl)
 
 pub read-frame : Determined 1 read-frame-kinds.ps read-frame-kinds.r read-frame-reads.Post (λ κs x. tt {0})
 read-frame κs a r s x y = λ p q. (response-known r s (p ∙ sym q), refl)
+
+pub read-response : Determined 0 read-response-kinds.ps read-response-kinds.r read-response-reads.Post (λ κs x. tt {0})
+read-response κs a r s x y = λ p q. (response-known r s (p ∙ sym q), refl)

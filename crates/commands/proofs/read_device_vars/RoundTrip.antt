@@ -15,7 +15,7 @@ use Rattle.octets.specs.Digits.{Below}
 use Rattle.octets.proofs.Digits.{below-at, digits-from, from-digits-whole, from-below}
 use Rattle.commands.specs.Worth.{worth, Sound}
 use Rattle.commands.proofs.Worths.{keeps-bits, sound}
-use Rattle.commands.specs.Variables.{requested, variable, variableAt, groupBytes}
+use Rattle.commands.specs.Variables.{codesRequested, variable, variableAt, groupBytes}
 
 -- what stands at n + j and behind it
 abbrev standing : List ℕ → ℕ → ℕ → ℕ → List ℕ
@@ -58,8 +58,8 @@ pub variable-back : (code class unit bits status : ℕ) (rest : List ℕ) → bi
 variable-back code class unit bits status rest h = ap (λ (n : ℕ). variable code class unit n status) (from-digits-whole 256 4 bits (lit< tt) h)
 
 -- the codes of a request that was written are those that were asked for
-pub request-back : (codes buffer : List ℕ) {values left : List ℕ} → requested codes buffer ≡ ends (done values) left → take (length codes) left ≡ codes
-unfolding requested
+pub request-back : (codes buffer : List ℕ) {values left : List ℕ} → codesRequested codes buffer ≡ ends (done values) left → take (length codes) left ≡ codes
+unfolding codesRequested
 request-back codes buffer {values} {left} = by (ltb 8 (length codes)) (ltb (length buffer) (length codes))
   where
     by : (many small : Bool) → cond many (refuses 1 [] buffer) (cond small (refuses 2 [] buffer) (wrote codes buffer)) ≡ ends (done values) left → take (length codes) left ≡ codes

@@ -13,6 +13,8 @@ use Rattle.commands.proofs.read_unique_id_by_tag.decode_tag.Kinds as de
 use Rattle.commands.proofs.read_unique_id_by_tag.decode_tag.Reads as decode-tag-reads
 use Rattle.commands.proofs.read_unique_id_by_tag.read_frame.Kinds as read-frame-kinds
 use Rattle.commands.proofs.read_unique_id_by_tag.read_frame.Reads as read-frame-reads
+use Rattle.commands.proofs.read_unique_id_by_tag.read_response.Kinds as read-response-kinds
+use Rattle.commands.proofs.read_unique_id_by_tag.read_response.Reads as read-response-reads
 
 pub encode-data : Determined 1 encode-data-kinds.ps encode-data-kinds.r encode-data-reads.Post (λ κs x. now (x .1 .1 .0))
 encode-data κs a r s x y = agree replyOf written-known
@@ -25,3 +27,6 @@ decode-tag κs a r s x y = agree-alone
 
 pub read-frame : Determined 1 read-frame-kinds.ps read-frame-kinds.r read-frame-reads.Post (λ κs x. tt {0})
 read-frame κs a r s x y = λ p q. (identity-known r s (p ∙ sym q), refl)
+
+pub read-response : Determined 0 read-response-kinds.ps read-response-kinds.r read-response-reads.Post (λ κs x. tt {0})
+read-response κs a r s x y = λ p q. (identity-known r s (p ∙ sym q), refl)

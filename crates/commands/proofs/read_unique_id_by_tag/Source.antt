@@ -8,25 +8,25 @@ use mathlib.Core.List.{List, [], _∷_}
 use lib.ListN.{length, replicate}
 use lib.Dec.{ltb}
 use borrow.Author.Tests.{ltb-true, ltb-false}
-use Rattle.refusal.specs.Outcome.{ends, done, refuses}
+use Rattle.refusal.specs.Outcome.{Outcome, ends, done, refuses}
 use Rattle.octets.specs.Digits.{Below}
-use Rattle.octets.specs.Source.{Run, comes, lentTo, gives}
+use Rattle.octets.specs.Source.{Run, comes, lentTo}
 use Rattle.octets.proofs.Put.{put-wrote}
 use Rattle.packed_string.specs.declared.text_group.Mode.the-variants.{Crate}
 use Rattle.packed_string.specs.Source.{sourceEncoded}
-use Rattle.commands.specs.Identity.{Identified, identified, refused, identity}
+use Rattle.commands.specs.Identity.{Identified, identified, unidentified, identity}
 use Rattle.commands.proofs.IdentitySource.{identity-is-source}
 use Rattle.commands.specs.Modes.{packedText, unpackedText}
 use Rattle.commands.proofs.Texts.{length-packed-text, crate-good}
 use Rattle.commands.proofs.TextSource.{source-lent, source-filled}
 use Rattle.commands.specs.Tag.{tagRequested}
-use Rattle.commands.specs.TagSource.{sourceRequested, copied, passedUp, sourceResponse, sourceTag}
+use Rattle.commands.specs.TagSource.{sourceTagRequested, copied, passedUp, sourceResponse, sourceTag}
 use Rattle.commands.proofs.read_unique_id_by_tag.Tags.{tag-small, tag-fits}
 
-pub encode-is-source : (tag buf : List ℕ) → length tag ≡ 8 → sourceRequested tag buf ≡ comes (tagRequested Crate tag buf)
+pub encode-is-source : (tag buf : List ℕ) → length tag ≡ 8 → sourceTagRequested tag buf ≡ comes (tagRequested Crate tag buf)
 encode-is-source tag buf t = by (ltb (length buf) 6) refl
   where
-    six : List ℕ → Run
+    six : List ℕ → Run Outcome
     six b = comes (ends (done (6 ∷ [])) b)
 
     by : (small : Bool) → ltb (length buf) 6 ≡ small → cond small (comes (refuses 2 [] buf)) (lentTo buf 0 6 (sourceEncoded tag) six) ≡ comes (tagRequested Crate tag buf)
@@ -38,10 +38,10 @@ encode-is-source tag buf t = by (ltb (length buf) 6) refl
 
 copied-same : (r : Identified) → copied r ≡ r
 copied-same (identified id) = refl
-copied-same (refused number values) = refl
+copied-same (unidentified number values) = refl
 
-pub decode-is-source : (bs : List ℕ) → Below 256 bs → sourceResponse bs ≡ gives (identity bs)
-decode-is-source bs b = ap passedUp (identity-is-source bs b) ∙ ap gives (copied-same (identity bs))
+pub decode-is-source : (bs : List ℕ) → Below 256 bs → sourceResponse bs ≡ comes (identity bs)
+decode-is-source bs b = ap passedUp (identity-is-source bs b) ∙ ap comes (copied-same (identity bs))
 
-pub tag-is-source : (packed : List ℕ) → length packed ≡ 6 → Below 256 packed → sourceTag packed ≡ gives (unpackedText Crate packed)
-tag-is-source packed e b = source-filled packed (replicate 8 0x20) gives b (omega arith) (omega arith)
+pub tag-is-source : (packed : List ℕ) → length packed ≡ 6 → Below 256 packed → sourceTag packed ≡ comes (unpackedText Crate packed)
+tag-is-source packed e b = source-filled packed (replicate 8 0x20) comes b (omega arith) (omega arith)

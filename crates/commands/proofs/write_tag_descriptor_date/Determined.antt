@@ -8,20 +8,22 @@ use Rattle.framing.specs.declared.payload.PayloadVerdict.{PayloadVerdict}
 use Rattle.framing.specs.Payload.{Judgement}
 use Rattle.framing.proofs.Determined.{verdict-known}
 use Rattle.commands.specs.declared.write_tag_descriptor_date.WriteTagDescriptorDateResponse.{WriteTagDescriptorDateResponse}
-use Rattle.commands.specs.TagDescriptorDate.{Fields, reads, fieldsOf}
+use Rattle.commands.specs.TagDescriptorDate.{Fields, readsFields, fieldsOf}
 use Rattle.commands.proofs.write_tag_descriptor_date.encode_data.Kinds as encode-data-kinds
 use Rattle.commands.proofs.write_tag_descriptor_date.encode_data.Reads as encode-data-reads
 use Rattle.commands.proofs.write_tag_descriptor_date.decode_data.Kinds as decode-data-kinds
 use Rattle.commands.proofs.write_tag_descriptor_date.decode_data.Reads as decode-data-reads
 use Rattle.commands.proofs.write_tag_descriptor_date.read_frame.Kinds as read-frame-kinds
 use Rattle.commands.proofs.write_tag_descriptor_date.read_frame.Reads as read-frame-reads
+use Rattle.commands.proofs.write_tag_descriptor_date.read_response.Kinds as read-response-kinds
+use Rattle.commands.proofs.write_tag_descriptor_date.read_response.Reads as read-response-reads
 
 abbrev judgementIn : Fields → Judgement
-judgementIn (reads judgement tag descriptor day month year) = judgement
+judgementIn (readsFields judgement tag descriptor day month year) = judgement
 
 -- a response is made of its verdict and the other fields
 abbrev made : PayloadVerdict → Fields → WriteTagDescriptorDateResponse
-made verdict (reads judgement tag descriptor day month year) = record { verdict = verdict; tag = tag; descriptor = descriptor; day = day; month = month; year = year }
+made verdict (readsFields judgement tag descriptor day month year) = record { verdict = verdict; tag = tag; descriptor = descriptor; day = day; month = month; year = year }
 
 -- so it is known by them
 response-known : (r s : WriteTagDescriptorDateResponse) → fieldsOf r ≡ fieldsOf s → r ≡ s
@@ -35,3 +37,6 @@ decode-data κs a r s x y = λ p q. (response-known r s (p ∙ sym q), refl)
 
 pub read-frame : Determined 1 read-frame-kinds.ps read-frame-kinds.r read-frame-reads.Post (λ κs x. tt {0})
 read-frame κs a r s x y = λ p q. (response-known r s (p ∙ sym q), refl)
+
+pub read-response : Determined 0 read-response-kinds.ps read-response-kinds.r read-response-reads.Post (λ κs x. tt {0})
+read-response κs a r s x y = λ p q. (response-known r s (p ∙ sym q), refl)

@@ -11,7 +11,7 @@ use Rattle.commands.specs.Modes.{packedText, badIn}
 use Rattle.commands.proofs.Texts.{length-packed-text, bad-in-first, bad-in-second, fields-small, fields-bad, fields-fit}
 use Rattle.octets.specs.Put.{put}
 use Rattle.octets.proofs.Put.{length-put, put-put, stores-put}
-use Rattle.commands.specs.TagDescriptorDate.{layout, requested, fieldsAt, refusedRead, fieldsRead}
+use Rattle.commands.specs.TagDescriptorDate.{tagDescriptorDateLayout, tagDescriptorDateRequested, fieldsAt, fieldsRefused, fieldsRead}
 
 -- the bytes of a tag, of a descriptor, and of both, behind which the date stands
 module _ (mode : Mode) where
@@ -37,12 +37,12 @@ module _ (tag descriptor : List ℕ) (t : length tag ≡ 8) (d : length descript
 
 module _ (mode : Mode) (tag descriptor : List ℕ) (day month year : ℕ) where
   module _ (t : length tag ≡ 8) (d : length descriptor ≡ 16) where
-    pub length-layout : length (layout mode tag descriptor day month year) ≡ 21
+    pub length-layout : length (tagDescriptorDateLayout mode tag descriptor day month year) ≡ 21
     length-layout = omega (arith, length-append (packedText mode tag ++ packedText mode descriptor) (day ∷ month ∷ year ∷ []), length-texts mode tag descriptor t d)
 
     -- both texts and the three bytes of the date, each put at its place
     pub fields-put : (l : List ℕ) {b₁ b₂ : List ℕ} → 21 ≤ length l → b₁ ≡ put l 0 (packedText mode tag) → b₂ ≡ put b₁ 6 (packedText mode descriptor)
-        → set (set (set b₂ 18 day) 19 month) 20 year ≡ put l 0 (layout mode tag descriptor day month year)
+        → set (set (set b₂ 18 day) 19 month) 20 year ≡ put l 0 (tagDescriptorDateLayout mode tag descriptor day month year)
     fields-put l {b₁} {b₂} h e f =
         let p = packedText mode tag in
         let q = packedText mode descriptor in
@@ -53,20 +53,20 @@ module _ (mode : Mode) (tag descriptor : List ℕ) (day month year : ℕ) where
         ∙ put-put l 0 (p ++ q) (day ∷ month ∷ year ∷ []) 18 (omega (arith, length-texts mode tag descriptor t d)) (omega (arith, length-texts mode tag descriptor t d))
 
     module _ (buffer : List ℕ) (room : 21 ≤ length buffer) where
-      pub requested-bad : badIn mode (tag ++ descriptor) < 24 → requested mode tag descriptor day month year buffer ≡ refuses 7 (badIn mode (tag ++ descriptor) ∷ []) buffer
-      unfolding requested
-      requested-bad h = fields-bad mode 21 (tag ++ descriptor) (layout mode tag descriptor day month year) buffer room (omega (arith, length-both tag descriptor t d))
+      pub requested-bad : badIn mode (tag ++ descriptor) < 24 → tagDescriptorDateRequested mode tag descriptor day month year buffer ≡ refuses 7 (badIn mode (tag ++ descriptor) ∷ []) buffer
+      unfolding tagDescriptorDateRequested
+      requested-bad h = fields-bad mode 21 (tag ++ descriptor) (tagDescriptorDateLayout mode tag descriptor day month year) buffer room (omega (arith, length-both tag descriptor t d))
 
-      pub requested-fits : 24 ≤ badIn mode (tag ++ descriptor) → requested mode tag descriptor day month year buffer ≡ wrote (layout mode tag descriptor day month year) buffer
-      unfolding requested
-      requested-fits h = fields-fit mode 21 (tag ++ descriptor) (layout mode tag descriptor day month year) buffer room (omega (arith, length-both tag descriptor t d))
+      pub requested-fits : 24 ≤ badIn mode (tag ++ descriptor) → tagDescriptorDateRequested mode tag descriptor day month year buffer ≡ wrote (tagDescriptorDateLayout mode tag descriptor day month year) buffer
+      unfolding tagDescriptorDateRequested
+      requested-fits h = fields-fit mode 21 (tag ++ descriptor) (tagDescriptorDateLayout mode tag descriptor day month year) buffer room (omega (arith, length-both tag descriptor t d))
 
-  pub requested-small : (buffer : List ℕ) → length buffer < 21 → requested mode tag descriptor day month year buffer ≡ refuses 2 [] buffer
-  unfolding requested
-  requested-small buffer h = fields-small mode 21 (tag ++ descriptor) (layout mode tag descriptor day month year) buffer h
+  pub requested-small : (buffer : List ℕ) → length buffer < 21 → tagDescriptorDateRequested mode tag descriptor day month year buffer ≡ refuses 2 [] buffer
+  unfolding tagDescriptorDateRequested
+  requested-small buffer h = fields-small mode 21 (tag ++ descriptor) (tagDescriptorDateLayout mode tag descriptor day month year) buffer h
 
 module _ (mode : Mode) (bs : List ℕ) where
-  pub read-short : length bs < 21 → fieldsRead mode bs ≡ refusedRead 3 []
+  pub read-short : length bs < 21 → fieldsRead mode bs ≡ fieldsRefused 3 []
   unfolding fieldsRead
   read-short h = rw (lt-ltb (length bs) 21 h)
 

@@ -9,10 +9,10 @@ use lib.ListN.{length, set, take, drop, replicate, length-set, length-drop}
 use lib.Seq.{length-take-le}
 use lib.Dec.{ltb}
 use borrow.Author.Tests.{ltb-true, ltb-false, lt-ltb, le-leb}
-use Rattle.refusal.specs.Outcome.{ends, done, refuses}
+use Rattle.refusal.specs.Outcome.{Outcome, ends, done, refuses}
 use Rattle.octets.specs.Digits.{Below}
 use Rattle.octets.specs.Put.{put}
-use Rattle.octets.specs.Source.{Run, comes, storeAt, lentTo, Given, gives, valueAt, sliceAt, filledBy}
+use Rattle.octets.specs.Source.{Run, comes, storeAt, lentTo, readAt, sliceAt, afterCall}
 use Rattle.octets.proofs.Put.{length-put, put-wrote}
 use Rattle.packed_string.specs.declared.text_group.Mode.the-variants.{Crate}
 use Rattle.packed_string.specs.Source.{sourceEncoded, sourceDecoded}
@@ -20,12 +20,12 @@ use Rattle.framing.specs.Payload.{carries}
 use Rattle.commands.specs.Modes.{packedText, unpackedText}
 use Rattle.commands.proofs.Texts.{crate-good}
 use Rattle.commands.proofs.TextSource.{source-lent, source-filled}
-use Rattle.commands.specs.TagDescriptorDate.{Fields, reads, layout, requested, refusedRead, fieldsRead}
-use Rattle.commands.specs.TagDescriptorDateSource.{sourceRequested, sourceRead}
+use Rattle.commands.specs.TagDescriptorDate.{Fields, readsFields, tagDescriptorDateLayout, tagDescriptorDateRequested, fieldsRefused, fieldsRead}
+use Rattle.commands.specs.TagDescriptorDateSource.{sourceFieldsRequested, sourceRead}
 use Rattle.commands.proofs.write_tag_descriptor_date.Layouts.{length-tag, length-descriptor, length-both, length-layout, fields-put, requested-small, requested-fits, read-short, read-whole}
 
 pub encode-is-source : (tag descriptor : List ℕ) (day month year : ℕ) (buf : List ℕ) → length tag ≡ 8 → length descriptor ≡ 16
-    → sourceRequested tag descriptor day month year buf ≡ comes (requested Crate tag descriptor day month year buf)
+    → sourceFieldsRequested tag descriptor day month year buf ≡ comes (tagDescriptorDateRequested Crate tag descriptor day month year buf)
 encode-is-source tag descriptor day month year buf t d = by (ltb (length buf) 21) refl
   where
     p : List ℕ
@@ -34,11 +34,11 @@ encode-is-source tag descriptor day month year buf t d = by (ltb (length buf) 21
     q : List ℕ
     q = packedText Crate descriptor
 
-    stored : List ℕ → Run
+    stored : List ℕ → Run Outcome
     stored b = storeAt b 18 day (λ b₁. storeAt b₁ 19 month (λ b₂. storeAt b₂ 20 year (λ b₃. comes (ends (done (21 ∷ [])) b₃))))
 
     by : (small : Bool) → ltb (length buf) 21 ≡ small
-        → cond small (comes (refuses 2 [] buf)) (lentTo buf 0 6 (sourceEncoded tag) (λ b. lentTo b 6 18 (sourceEncoded descriptor) stored)) ≡ comes (requested Crate tag descriptor day month year buf)
+        → cond small (comes (refuses 2 [] buf)) (lentTo buf 0 6 (sourceEncoded tag) (λ b. lentTo b 6 18 (sourceEncoded descriptor) stored)) ≡ comes (tagDescriptorDateRequested Crate tag descriptor day month year buf)
     by true e = ap comes (sym (requested-small Crate tag descriptor day month year buf (ltb-true (length buf) 21 e)))
     by false e =
         let room : 21 ≤ length buf = ltb-false (length buf) 21 e in
@@ -53,7 +53,7 @@ encode-is-source tag descriptor day month year buf t d = by (ltb (length buf) 21
         source-lent tag buf 0 6 (λ b. lentTo b 6 18 (sourceEncoded descriptor) stored) (omega arith) (omega arith)
         ∙ source-lent descriptor b₁ 6 18 stored (omega arith) (omega arith)
         ∙ rw (lt-ltb 18 (length b₂) (omega arith), lt-ltb 19 (length b₃) (omega arith), lt-ltb 20 (length b₄) (omega arith))
-        (ap comes (put-wrote buf (layout Crate tag descriptor day month year) (fields-put Crate tag descriptor day month year t d buf room refl refl) (sym (length-layout Crate tag descriptor day month year t d))
+        (ap comes (put-wrote buf (tagDescriptorDateLayout Crate tag descriptor day month year) (fields-put Crate tag descriptor day month year t d buf room refl refl) (sym (length-layout Crate tag descriptor day month year t d))
         ∙ sym (requested-fits Crate tag descriptor day month year t d buf room (omega (arith, crate-good (tag ++ descriptor), length-both tag descriptor t d)))))
 
 below-take : (n : ℕ) (bs : List ℕ) → Below 256 bs → Below 256 (take n bs)
@@ -66,17 +66,17 @@ below-drop zero bs h = h
 below-drop (suc n) [] h = tt
 below-drop (suc n) (b ∷ bs) h = below-drop n bs (h .1)
 
-pub decode-is-source : (bs : List ℕ) → Below 256 bs → sourceRead bs ≡ gives (fieldsRead Crate bs)
+pub decode-is-source : (bs : List ℕ) → Below 256 bs → sourceRead bs ≡ comes (fieldsRead Crate bs)
 decode-is-source bs h = by (ltb (length bs) 21) refl
   where
-    dated : List ℕ → List ℕ → Given Fields
-    dated tag descriptor = valueAt bs 18 (λ day. valueAt bs 19 (λ month. valueAt bs 20 (λ year. gives (reads carries tag descriptor day month year))))
+    dated : List ℕ → List ℕ → Run Fields
+    dated tag descriptor = readAt bs 18 (λ day. readAt bs 19 (λ month. readAt bs 20 (λ year. comes (readsFields carries tag descriptor day month year))))
 
-    described : List ℕ → Given Fields
-    described tag = sliceAt bs 6 18 (λ part. filledBy (sourceDecoded part (replicate 16 0x20)) (dated tag))
+    described : List ℕ → Run Fields
+    described tag = sliceAt bs 6 18 (λ part. afterCall (sourceDecoded part (replicate 16 0x20)) (dated tag))
 
-    by : (short : Bool) → ltb (length bs) 21 ≡ short → cond short (gives (refusedRead 3 [])) (sliceAt bs 0 6 (λ part. filledBy (sourceDecoded part (replicate 8 0x20)) described)) ≡ gives (fieldsRead Crate bs)
-    by true e = ap gives (sym (read-short Crate bs (ltb-true (length bs) 21 e)))
+    by : (short : Bool) → ltb (length bs) 21 ≡ short → cond short (comes (fieldsRefused 3 [])) (sliceAt bs 0 6 (λ part. afterCall (sourceDecoded part (replicate 8 0x20)) described)) ≡ comes (fieldsRead Crate bs)
+    by true e = ap comes (sym (read-short Crate bs (ltb-true (length bs) 21 e)))
     by false e =
         let room : 21 ≤ length bs = ltb-false (length bs) 21 e in
         let first = take 6 bs in
@@ -87,4 +87,4 @@ decode-is-source bs h = by (ltb (length bs) 21) refl
         (source-filled first (replicate 8 0x20) described (below-take 6 bs h) (omega arith) (omega arith)
         ∙ rw (le-leb 18 (length bs) (omega arith))
         (source-filled second (replicate 16 0x20) (dated (unpackedText Crate first)) (below-take 12 (drop 6 bs) (below-drop 6 bs h)) (omega arith) (omega arith)
-        ∙ rw (lt-ltb 18 (length bs) (omega arith), lt-ltb 19 (length bs) (omega arith), lt-ltb 20 (length bs) (omega arith)) (ap gives (sym (read-whole Crate bs room)))))
+        ∙ rw (lt-ltb 18 (length bs) (omega arith), lt-ltb 19 (length bs) (omega arith), lt-ltb 20 (length bs) (omega arith)) (ap comes (sym (read-whole Crate bs room)))))

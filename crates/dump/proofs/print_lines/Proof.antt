@@ -1,96 +1,86 @@
--- The loop's invariant: the dump is that of the bytes that are done. Each turn takes a byte at least.
-use Prim.Native.Nat.{ℕ, _+_, _-_, _≤_, _<_}
+-- The loop's invariant: the bytes so far are passed on. Each turn uses a byte at least, and asks for as many bytes as the buffer has at most.
+use Prim.Native.Nat.{_+_, _*_, _-_, _≤_, _<_}
 use native.Mathlib.Omega.{arith}
-use mathlib.Core.Path.{_≡_, refl, sym, ap, _∙_}
-use mathlib.Core.List.{List}
-use lib.ListN.{length, take, drop, length-drop}
-use lib.Seq.{take-all, take-add}
-use Rattle.dump_lines.specs.Text.{lineMax}
-use Rattle.dump_lines.specs.Lines.{after, taken}
-use Rattle.dump_lines.specs.declared.Dump.{Dump}
-use Rattle.dump_lines.specs.declared.Taken.{Taken}
-use Rattle.dump_lines.proofs.Along.{after-append, used-within, used-some, written-within}
+use mathlib.Core.Path.{_≡_, refl, ap, _∙_}
+use lib.Dec.{ltb, eqb}
+use lib.ListN.{length, drop, length-drop}
+use lib.Seq.{take-all}
+use borrow.Author.Tests.{ltb-true, ltb-false, eq-eqb}
+use Rattle.line.proofs.machine.Zeros.{and-first}
+use Rattle.dump.specs.Passing.{PassesOn}
+use Rattle.dump.proofs.Answers.{and-left}
+use Rattle.dump.proofs.Passing.{passed, passes-none, passes-more}
 use Rattle.dump.proofs.print_lines.Statement.{statement}
 use Rattle.dump.proofs.print_lines.Tie as tie
 
--- what a call of `take` does with the bytes that are not done yet
-module _ (first : Dump) (src : List ℕ) (d : Dump) (out : List ℕ) (done : ℕ) {t : Taken} (is : d ≡ after first (take done src)) (h : done < length src) (k : lineMax ≤ length out)
-    (e : t ≡ taken d (take (length src - done) (drop done src)) (length out)) where
-  rest : take (length src - done) (drop done src) ≡ drop done src
-  rest = take-all (length src - done) (drop done src) (omega (arith, length-drop done src))
-
-  goes : (0 < t .used) × (done + t .used ≤ length src)
-  goes =
-      let bs : List ℕ = take (length src - done) (drop done src) in
-      let size : length bs ≡ length src - done = ap length rest ∙ length-drop done src in
-      (used-some d bs out e (omega arith) k, omega (arith, used-within d bs out e))
-
-  further : t .dump ≡ after first (take (done + t .used) src)
-  further =
-      let bs : List ℕ = take (length src - done) (drop done src) in
-      ap (λ (x : Taken). x .dump) e
-      ∙ ap (λ (x : Taken). after d (take (x .used) bs)) (sym e)
-      ∙ ap (λ (xs : List ℕ). after d (take (t .used) xs)) rest
-      ∙ ap (λ (x : Dump). after x (take (t .used) (drop done src))) is
-      ∙ sym (after-append first (take done src) (take (t .used) (drop done src)))
-      ∙ ap (after first) (sym (take-add done (t .used) src))
-
 abbrev Inv-loop : tie.InvT-loop
-Inv-loop src out₀ dump₀ done₀ out dump done = (done ≤ length src) × (length out ≡ length out₀) × (dump ≡ after dump₀ (take done src))
+Inv-loop src out₀ dump₀ used₀ asked₀ took₀ out dump used asked took = (length out ≡ length out₀) × (asked ≤ 65536 * used) × PassesOn dump₀ src (passed dump used asked took)
 
 abbrev μ-loop : tie.MeasureT-loop
-μ-loop src out₀ dump₀ done₀ out dump done = length src - done
+μ-loop src out₀ dump₀ used₀ asked₀ took₀ out dump used asked took = length src - used
+
+-- a byte is left
+turns : (c : tie.In-loop Inv-loop μ-loop) → c .before .loop .used < length (c .before .before .before .before .args .src .now)
+turns c =
+    let l = c .before .loop in
+    ltb-true _ _ (and-first (ltb (l .used) (length (c .before .before .before .before .args .src .now))) (eqb (l .took) (l .asked)) (c .loop-test .taken))
 
 loop-holds : tie.Need-loop-holds Inv-loop μ-loop
-loop-holds c = (omega arith, refl, refl)
+loop-holds c = (refl, omega arith, passes-none (c .before .before .args .dump) (c .before .before .args .src .now))
 
-sub-take : tie.Need-sub-take Inv-loop μ-loop
-sub-take c = omega arith
+sub-print-some : tie.Need-sub-print-some Inv-loop μ-loop
+sub-print-some c = omega (arith, turns c)
 
-part-take-start : tie.Need-part-take-start Inv-loop μ-loop
-part-take-start c = omega arith
+part-print-some-start : tie.Need-part-print-some-start Inv-loop μ-loop
+part-print-some-start c = omega (arith, turns c)
 
-part-take-end : tie.Need-part-take-end Inv-loop μ-loop
-part-take-end c = omega arith
+part-print-some-end : tie.Need-part-print-some-end Inv-loop μ-loop
+part-print-some-end c = omega (arith, turns c)
 
-take-requires : tie.Need-take-requires Inv-loop μ-loop
-take-requires c κs = tt
+print-some-requires : tie.Need-print-some-requires Inv-loop μ-loop
+print-some-requires c κs = omega arith
 
-print-requires : tie.Need-print-requires Inv-loop μ-loop
-print-requires c κs =
-    let t = c .before .before .before .take in
-    let l = c .before .before .before .before .before .before .before .loop in
-    let src = c .before .before .before .before .before .before .before .before .before .before .args .src .now in
-    omega (arith, written-within (l .dump) (take (length src - l .done) (drop (l .done) src)) (l .out) (t .ensures .0) (t .ensures .1) (t .kept .1 .1 .0), t .kept .1 .1 .0)
+-- the turn's bytes behind those so far
+further : (c : tie.After-print-some Inv-loop μ-loop) → PassesOn (c .before .before .before .before .before .before .before .args .dump) (c .before .before .before .before .before .before .before .args .src .now) (passed (c .print-some .result .dump) (c .before .before .before .before .loop .used + c .print-some .result .used) (c .before .before .before .before .loop .asked + c .print-some .result .sent .asked) (c .before .before .before .before .loop .took + c .print-some .result .sent .took))
+further c = passes-more (c .before .before .before .before .loop .inv .2) (c .print-some .ensures .0)
 
-same-length : tie.Need-same-length Inv-loop μ-loop
-same-length c = c .before .before .before .before .before .take .kept .1 .1 .0 ∙ c .before .before .before .before .before .before .before .before .before .loop .inv .1
+uses : (c : tie.After-print-some Inv-loop μ-loop) → 0 < c .print-some .result .used
+uses c =
+    let src = c .before .before .before .before .before .before .before .args .src .now in
+    let used = c .before .before .before .before .loop .used in
+    c .print-some .ensures .1 .0 (omega (arith, turns (c .before .before .before), ap length (take-all (length src - used) (drop used src) (omega (arith, length-drop used src))), length-drop used src))
 
-returns : tie.Need-returns Inv-loop μ-loop
-returns c = λ e. let z : _≡_ {A = ℕ} 0 1 = cc in absurd (omega arith)
+asks : (c : tie.After-print-some Inv-loop μ-loop) → (c .before .before .before .before .loop .asked + c .print-some .result .sent .asked) ≤ 65536 * (c .before .before .before .before .loop .used + c .print-some .result .used)
+asks c = omega (arith, uses c, c .before .before .before .before .loop .inv .0, c .before .before .before .before .loop .inv .1, c .print-some .ensures .1 .1 .0)
 
-add-done : tie.Need-add-done Inv-loop μ-loop
-add-done c = omega (arith, c .before .before .before .before .before .before .before .before .before .before .before .before .before .before .good .1 .0 .0, goes (c .before .before .before .before .before .before .before .before .before .before .before .before .before .before .args .dump) (c .before .before .before .before .before .before .before .before .before .before .before .before .before .before .args .src .now) (c .before .before .before .before .before .before .before .before .before .before .before .loop .dump) (c .before .before .before .before .before .before .before .before .before .before .before .loop .out) (c .before .before .before .before .before .before .before .before .before .before .before .loop .done) (c .before .before .before .before .before .before .before .before .before .before .before .loop .inv .2) (omega arith) (omega arith) (c .before .before .before .before .before .before .before .take .ensures .0))
+add-used : tie.Need-add-used Inv-loop μ-loop
+add-used c = omega (arith, further (c .before .before .before .before) .within)
+
+add-asked : tie.Need-add-asked Inv-loop μ-loop
+add-asked c = omega (arith, asks (c .before .before .before .before .before .before), further (c .before .before .before .before .before .before) .within)
+
+add-took : tie.Need-add-took Inv-loop μ-loop
+add-took c = omega (arith, asks (c .before .before .before .before .before .before .before), further (c .before .before .before .before .before .before .before) .within, further (c .before .before .before .before .before .before .before) .answered)
 
 loop-less : tie.Need-loop-less Inv-loop μ-loop
-loop-less c = omega (arith, goes (c .before .before .before .before .before .before .before .before .before .before .before .before .before .before .args .dump) (c .before .before .before .before .before .before .before .before .before .before .before .before .before .before .args .src .now) (c .before .before .before .before .before .before .before .before .before .before .before .loop .dump) (c .before .before .before .before .before .before .before .before .before .before .before .loop .out) (c .before .before .before .before .before .before .before .before .before .before .before .loop .done) (c .before .before .before .before .before .before .before .before .before .before .before .loop .inv .2) (omega arith) (omega arith) (c .before .before .before .before .before .before .before .take .ensures .0))
+loop-less c = omega (arith, turns (c .before .before .before .before .before .before .before .before .before .before), uses (c .before .before .before .before .before .before .before))
 
 loop-again : tie.Need-loop-again Inv-loop μ-loop
-loop-again c = (
-  goes (c .before .before .before .before .before .before .before .before .before .before .before .before .before .before .args .dump) (c .before .before .before .before .before .before .before .before .before .before .before .before .before .before .args .src .now) (c .before .before .before .before .before .before .before .before .before .before .before .loop .dump) (c .before .before .before .before .before .before .before .before .before .before .before .loop .out) (c .before .before .before .before .before .before .before .before .before .before .before .loop .done) (c .before .before .before .before .before .before .before .before .before .before .before .loop .inv .2) (omega arith) (omega arith) (c .before .before .before .before .before .before .before .take .ensures .0) .1,
-  c .before .before .before .before .before .before .before .take .kept .1 .1 .0 ∙ c .before .before .before .before .before .before .before .before .before .before .before .loop .inv .1,
-  further (c .before .before .before .before .before .before .before .before .before .before .before .before .before .before .args .dump) (c .before .before .before .before .before .before .before .before .before .before .before .before .before .before .args .src .now) (c .before .before .before .before .before .before .before .before .before .before .before .loop .dump) (c .before .before .before .before .before .before .before .before .before .before .before .loop .out) (c .before .before .before .before .before .before .before .before .before .before .before .loop .done) (c .before .before .before .before .before .before .before .before .before .before .before .loop .inv .2) (omega arith) (omega arith) (c .before .before .before .before .before .before .before .take .ensures .0),
-)
+loop-again c = (c .before .before .before .before .before .before .before .print-some .kept .1 .1 .0 ∙ c .before .before .before .before .before .before .before .before .before .before .before .loop .inv .0, asks (c .before .before .before .before .before .before .before), further (c .before .before .before .before .before .before .before))
 
-same-length-2 : tie.Need-same-length-2 Inv-loop μ-loop
-same-length-2 c = c .before .loop .inv .1
+-- it stops where all bytes are used, if all was taken
+stops : (c : tie.After-loop Inv-loop μ-loop) → c .before .loop .took ≡ c .before .loop .asked → c .before .loop .used ≡ length (c .before .before .before .before .args .src .now)
+stops c e =
+    let l = c .before .loop in
+    let n = length (c .before .before .before .before .args .src .now) in
+    let past : n ≤ l .used = ltb-false (l .used) n (and-left (ltb (l .used) n) (eqb (l .took) (l .asked)) (eq-eqb _ _ e) (c .loop-test .left)) in
+    omega (arith, past, l .inv .2 .within)
 
-returns-2 : tie.Need-returns-2 Inv-loop μ-loop
-returns-2 c =
-    λ e.
-    let src = c .before .before .before .before .args .src .now in
-    let all : take (c .before .loop .done) src ≡ src = take-all (c .before .loop .done) src (omega arith) in
-    c .before .loop .inv .2 ∙ ap (after (c .before .before .before .before .args .dump)) all
+same-length : tie.Need-same-length Inv-loop μ-loop
+same-length c = c .before .loop .inv .0
+
+returns : tie.Need-returns Inv-loop μ-loop
+returns c = (c .before .loop .inv .2, λ e. stops c e)
 
 pub print-lines-spec : {M : Type 1} → statement M
 print-lines-spec =
@@ -99,15 +89,14 @@ print-lines-spec =
     Inv-loop
     μ-loop
     loop-holds
-    sub-take
-    part-take-start
-    part-take-end
-    take-requires
-    print-requires
-    same-length
-    returns
-    add-done
+    sub-print-some
+    part-print-some-start
+    part-print-some-end
+    print-some-requires
+    add-used
+    add-asked
+    add-took
     loop-less
     loop-again
-    same-length-2
-    returns-2)
+    same-length
+    returns)

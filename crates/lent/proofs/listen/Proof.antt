@@ -46,7 +46,7 @@ use denote.Signature.{plain}
 use denote.Exit.{yes}
 use Rattle.framing.specs.declared.decode.Decoder.{Decoder}
 use Rattle.line.specs.declared.frame.Heard.{Heard}
-use Rattle.framing.specs.Feed.{fresh}
+use Rattle.framing.specs.Feed.{freshDecoder}
 use Rattle.framing.proofs.decode.Decoder as T
 use Rattle.framing.proofs.decode.Decoder.Laws as T′
 use Rattle.line.proofs.frame.Heard as F
@@ -55,7 +55,8 @@ use Rattle.framing.proofs.decode.Decoder.new.Symbol as new-def
 use Rattle.framing.proofs.decode.Decoder.new.Symbol.{name as #new}
 use Rattle.framing.proofs.decode.Decoder.new.Met as new-thm
 use Rattle.lent.specs.declared.keep.Kept.{Kept}
-use Rattle.lent.specs.Listen.{listened, keeping}
+use Rattle.lent.specs.Listen.{listened}
+use Rattle.lent.specs.Code.{keeping}
 use Rattle.lent.proofs.keep.Kept as S
 use Rattle.lent.proofs.keep.Kept.Laws as S′
 use Rattle.lent.proofs.keep.keep.Symbol as keep-def
@@ -213,11 +214,11 @@ module _ {M : Type 1} (𝓤 : URA M) (H : Heap 𝓤) (A : Atoms 𝓤) (W : Given
           move ! (13 ∷ 14 ∷ []) $ free1 ! $ move ! (11 ∷ 12 ∷ []) $ free1 ! $ move ! (9 ∷ 10 ∷ []) $ free1 ! $ move ! (7 ∷ 8 ∷ []) $ free1 ! $ move ! (5 ∷ 6 ∷ []) $ free1 ! $ move ! (3 ∷ 4 ∷ []) $ free1 ! $ free0 ! $
           keep ! (1 ∷ 2 ∷ []) $ by ! (exits (x .k .heard) (heard-is (x .k) (x .k-is)) (ap (λ (k : Kept). k .heard) (at-end ys (x .i) (x .d) (x .k) (ltb-false (x .i) (length ys) e)) ∙ x .so-far))
 
-      abbrev at-start : Is T.the-row fresh (mach fresh ∷ []) → Is S.the-row (begun n) (held (begun n) ∷ []) → Turn ys n
-      at-start d-is k-is = record { i = 0; d = fresh; k = begun n; so-far = listening-is ys n; d-is = d-is; k-is = k-is }
+      abbrev at-start : Is T.the-row freshDecoder (mach freshDecoder ∷ []) → Is S.the-row (begun n) (held (begun n) ∷ []) → Turn ys n
+      at-start d-is k-is = record { i = 0; d = freshDecoder; k = begun n; so-far = listening-is ys n; d-is = d-is; k-is = k-is }
 
       -- from the loop on
-      starts : (d-is : Is T.the-row fresh (mach fresh ∷ [])) (k-is : Is S.the-row (begun n) (held (begun n) ∷ [])) → Sq W (I (at-start d-is k-is)) (runs C Λ En mir.t-5 (atRet En Post))
+      starts : (d-is : Is T.the-row freshDecoder (mach freshDecoder ∷ [])) (k-is : Is S.the-row (begun n) (held (begun n) ∷ [])) → Sq W (I (at-start d-is k-is)) (runs C Λ En mir.t-5 (atRet En Post))
       starts d-is k-is = first ! $ blocks ! $ loops ! 𝓣 (Less ys n) (less-wf ys n) I (λ x. turn-by x (ltb (x .i) (length ys)) refl) (at-start d-is k-is)
 
     walk : ent 𝓤 (onEntry 𝓤 H A listen.signature (κ, tt) (q, tt) a vals) (WpFn 𝓤 H C Λ code.function (v ∷ vint w64 n ∷ []) Post)
@@ -230,8 +231,8 @@ module _ {M : Type 1} (𝓤 : URA M) (H : Heap 𝓤) (A : Atoms 𝓤) (W : Given
         pass1 ! (init ! 22 refl (tt, (tt, (record { fits = room .0 }, tt)))) $ pass1 ! (init ! 20 refl (tt, record { fits = n-fits })) $ pass0 ! $
         -- the locals from _12 down to _0, two items each, then Shr, the token and Own
         news ! at-mem run fm known-new (λ d-is.
-        land ! (from ! (stop !)) (init ! 10 refl (LL.lawful T.the-type T′.the-laws 𝓤 H A W .typed fresh _ d-is .0)) $
-        assigns ! (of-opd ! (load ! (from ! (stop !)) (look ! 10 refl))) (from ! (stop !)) (init ! 18 refl (LL.lawful T.the-type T′.the-laws 𝓤 H A W .typed fresh _ d-is .0)) $
+        land ! (from ! (stop !)) (init ! 10 refl (LL.lawful T.the-type T′.the-laws 𝓤 H A W .typed freshDecoder _ d-is .0)) $
+        assigns ! (of-opd ! (load ! (from ! (stop !)) (look ! 10 refl))) (from ! (stop !)) (init ! 18 refl (LL.lawful T.the-type T′.the-laws 𝓤 H A W .typed freshDecoder _ d-is .0)) $
         waits ! at-mem run fm known-waiting n n-fits (and-then ! (load ! (from ! (stop !)) (look ! 21 refl)) (no-more !)) (λ k-is.
         land ! (from ! (stop !)) (init ! 16 refl (LL.lawful S.the-type S′.the-laws 𝓤 H A W .typed (begun n) _ k-is .0)) $
         assigns ! (of-opd ! (lit ! tt)) (from ! (stop !)) (init ! 14 refl (tt, record { fits = lit< tt })) $

@@ -4,8 +4,8 @@ use mathlib.Core.Path.{_≡_, refl, ap, _∙_}
 use mathlib.Core.List.{List, [], _∷_, _++_, map}
 use Rattle.refusal.specs.declared.Refusal.{Refusal}
 use Rattle.line.specs.Pieces.{Bytes, joined}
-use Rattle.line.specs.Events.{Event, silence, found, refused, gather, framesIn, refusalsIn}
-use Rattle.line.specs.Runs.{Demand, says, ends}
+use Rattle.line.specs.Events.{Event, silence, found, rejected, gather, framesIn, refusalsIn}
+use Rattle.line.specs.Runs.{Demand, says, endsIn}
 use Rattle.line.proofs.Machines.{worded-says, worded-ends}
 use Rattle.line.proofs.Scan.{hunt, scan, told}
 use Rattle.line.proofs.Follows.{demand, follows-ends, follows-says}
@@ -36,20 +36,20 @@ stepped-demand run k = demand stepped real (λ s b f h. stepped-real s b f) run 
 pub heard-scanned : (run : List ℕ) → Bytes run → says hears fresh run ≡ map heardOf (map told (says scan hunt run))
 heard-scanned run k = worded-says feeding heardOf fresh run ∙ ap (map heardOf) (follows-says feeding real follows hunt run tt k)
 
-pub ends-scanned : (run : List ℕ) → Bytes run → ends hears fresh run ≡ real (ends scan hunt run)
+pub ends-scanned : (run : List ℕ) → Bytes run → endsIn hears fresh run ≡ real (endsIn scan hunt run)
 ends-scanned run k = worded-ends feeding heardOf fresh run ∙ follows-ends feeding real follows hunt run tt k
 
 frames-heard : (es : List Event) → framesHeard (map heardOf es) ≡ map frameOf (gather framesIn es)
 frames-heard [] = refl
 frames-heard (silence ∷ es) = frames-heard es
 frames-heard (found w ∷ es) = ap (λ (fs : List Frame). frameOf w ∷ fs) (frames-heard es)
-frames-heard (refused r ∷ es) = frames-heard es
+frames-heard (rejected r ∷ es) = frames-heard es
 
 refusals-heard : (es : List Event) → refusalsHeard (map heardOf es) ≡ gather refusalsIn es
 refusals-heard [] = refl
 refusals-heard (silence ∷ es) = refusals-heard es
 refusals-heard (found w ∷ es) = refusals-heard es
-refusals-heard (refused r ∷ es) = ap (λ (rs : List Refusal). r ∷ rs) (refusals-heard es)
+refusals-heard (rejected r ∷ es) = ap (λ (rs : List Refusal). r ∷ rs) (refusals-heard es)
 
 pub answered : (run : List ℕ) → Bytes run → Answered hears fresh run
 answered run k =

@@ -17,11 +17,11 @@ use Rattle.types.proofs.Delimiters.{delimiter-small}
 use Rattle.types.proofs.Addresses.{address-length-le}
 use Rattle.line.specs.Pieces.{Bytes, Piece, noise, shortRun, badDelimiter, frame, badCheck}
 use Rattle.line.specs.Events.{Event, refusal}
-use Rattle.line.specs.Runs.{ends}
+use Rattle.line.specs.Runs.{endsIn}
 use Rattle.line.proofs.Exists.{fine-ends, held-ends, held-bytes}
 use Rattle.line.proofs.Bytes.{bytes-append, bytes-left, bytes-right}
 use Rattle.line.proofs.Scan.{addressing, commanding, counting, loading, checking, Scan, hunt, pre, within, wire, scan, told, held, Fine}
-use Rattle.line.specs.machine.Room.{room}
+use Rattle.line.specs.machine.Room.{decoderRoom}
 use Rattle.line.specs.machine.Frames.{padded, answerOf}
 use Rattle.line.specs.machine.Step.{headOf}
 use Rattle.line.specs.machine.Reachable.{claimOf, allZero, isClear, isRight, reachableAt}
@@ -56,13 +56,13 @@ bytes-take k bs h = bytes-left (take k bs) (drop k bs) (subst Bytes (sym (take-a
 bytes-drop : (k : ℕ) (bs : List ℕ) → Bytes bs → Bytes (drop k bs)
 bytes-drop k bs h = bytes-right (take k bs) (drop k bs) (subst Bytes (sym (take-append-drop k bs)) h)
 
-module _ (s : State) (bs : List ℕ) (whole : length bs ≡ room) (r : reachableAt s bs ≡ true) where
+module _ (s : State) (bs : List ℕ) (whole : length bs ≡ decoderRoom) (r : reachableAt s bs ≡ true) where
   abbrev claimed : Bool
   claimed = claimOf s .possible && (isClear (claimOf s) bs && isRight (claimOf s) bs)
 
   holds : claimed ≡ true
   unfolding reachableAt
-  holds = and-second (eqb (length bs) room) claimed r
+  holds = and-second (eqb (length bs) decoderRoom) claimed r
 
   possible : claimOf s .possible ≡ true
   possible = and-first (claimOf s .possible) (isClear (claimOf s) bs && isRight (claimOf s) bs) holds
@@ -96,16 +96,16 @@ module _ (s : State) (bs : List ℕ) (whole : length bs ≡ room) (r : reachable
 delimiter-byte : (h : Head) → delimiter (h .«frame_type») (h .long) < 256
 delimiter-byte h = omega (arith, delimiter-small (h .«frame_type») (h .long))
 
-address-whole : (long : Bool) (bs : List ℕ) → length bs ≡ room → length (take (addressLength long) bs) ≡ addressLength long
+address-whole : (long : Bool) (bs : List ℕ) → length bs ≡ decoderRoom → length (take (addressLength long) bs) ≡ addressLength long
 address-whole long bs n = length-take-le (addressLength long) bs (omega (arith, address-length-le long))
 
-data-whole : (m : ℕ) (bs : List ℕ) → length bs ≡ room → m ≤ 255 → length (take m (drop 5 bs)) ≡ m
+data-whole : (m : ℕ) (bs : List ℕ) → length bs ≡ decoderRoom → m ≤ 255 → length (take m (drop 5 bs)) ≡ m
 data-whole m bs n h = length-take-le m (drop 5 bs) (omega (arith, length-drop 5 bs))
 
 scanned-back : (d : Held) → Value d → reachable d ≡ true → Scanned d
 scanned-back d v r = by (d .state) (d .bytes) (v .state) (v .bytes) (v .whole) r
   where
-    by : (s : State) (bs : List ℕ) → SmallState s → Bytes bs → length bs ≡ room → reachableAt s bs ≡ true → Scanned (holding s bs)
+    by : (s : State) (bs : List ℕ) → SmallState s → Bytes bs → length bs ≡ decoderRoom → reachableAt s bs ≡ true → Scanned (holding s bs)
     by Hunting bs z k n q = record { scanner = hunt; fine = tt; is = ap (holding Hunting) (blank-array ∙ arrayed Hunting bs n q (omega arith)) }
     by (Preamble m) bs z k n q =
         let p = possible (Preamble m) bs n q in
@@ -167,7 +167,7 @@ scanned-back d v r = by (d .state) (d .bytes) (v .state) (v .bytes) (v .whole) r
           scanner = within 5 (checking (wire (h .«frame_type») (h .long) ad c ds));
           fine = (
             omega arith,
-            record { addressed = address-whole (h .long) bs n; counted = omega (arith, count, z .2) },
+            record { addressFits = address-whole (h .long) bs n; countFits = omega (arith, count, z .2) },
             (delimiter-byte h, bytes-append ad (c ∷ length ds ∷ ds) (bytes-take (addressLength (h .long)) bs small) (z .1, (omega (arith, count, z .2), bytes-take e (drop 5 bs) (bytes-drop 5 bs small)))),
           );
           is = ap₂ (λ (g : Head) (i : ℕ). holding (Checksum g c i) (array ad ds)) (summed s bs n q h refl refl (ad ++ (c ∷ length ds ∷ ds)) (ap (λ (i : ℕ). checkFrom d (ad ++ (c ∷ i ∷ ds))) (sym count))) count
@@ -177,8 +177,8 @@ scanned-back d v r = by (d .state) (d .bytes) (v .state) (v .bytes) (v .whole) r
 -- each value that a run leads to passes the test
 pub reached-reachable : (d : Held) → Reached hears fresh d → reachable d ≡ true
 reached-reachable d r =
-    let e : ends hears fresh (r .run) ≡ real (ends scan hunt (r .run)) = ends-scanned (r .run) (r .small) in
-    ap reachable (sym (r .leads) ∙ e) ∙ reachable-real (ends scan hunt (r .run)) (fine-ends hunt (r .run) tt (r .small))
+    let e : endsIn hears fresh (r .run) ≡ real (endsIn scan hunt (r .run)) = ends-scanned (r .run) (r .small) in
+    ap reachable (sym (r .leads) ∙ e) ∙ reachable-real (endsIn scan hunt (r .run)) (fine-ends hunt (r .run) tt (r .small))
 
 -- and each value of the type that passes it has a run: the bytes that the decoder holds
 pub reachable-reached : (d : Held) → Value d → reachable d ≡ true → Reached hears fresh d
@@ -211,7 +211,7 @@ told-not-eight (some (badCheck n w c)) e = let z : _≡_ {A = ℕ} 0 1 = cc in o
 -- and never for what a run leads to
 pub reached-no-eight : (d : Held) (b : ℕ) → b < 256 → Reached hears fresh d → (hears d b) .1 .answer ≡ answerOf (refusal 8 []) → ⊥
 reached-no-eight d b h r e =
-    let s : Scan = ends scan hunt (r .run) in
+    let s : Scan = endsIn scan hunt (r .run) in
     let is : real s ≡ d = sym (ends-scanned (r .run) (r .small)) ∙ r .leads in
     let said : feeding d b .1 ≡ told ((scan s b) .1) = ap (λ (c : Held). feeding c b .1) (sym is) ∙ ap (λ (x : Held × Event). x .1) (follows s b (fine-ends hunt (r .run) tt (r .small)) h) in
     told-not-eight ((scan s b) .1) (ap answerOf (sym said) ∙ e)

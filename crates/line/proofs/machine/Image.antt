@@ -45,7 +45,7 @@ use Rattle.line.proofs.Scan.{
   Sized,
   Fine,
 }
-use Rattle.line.specs.machine.Room.{room}
+use Rattle.line.specs.machine.Room.{decoderRoom}
 use Rattle.line.specs.machine.Frames.{padded, wireAt}
 use Rattle.line.specs.machine.Step.{headOf, delimited}
 use Rattle.line.specs.machine.Reachable.{noClaim, claim, claimOf, isClear, isRight, reachableAt}
@@ -120,12 +120,12 @@ module _ (ad ds : List ℕ) (short : length ad ≤ 5) where
   right-array : (q : Claim) → q .address ≡ length ad → q .loaded ≡ length ds → q .check ≡ checkFrom (q .start) (ad ++ (q .command ∷ q .count ∷ ds)) → isRight q (array ad ds) ≡ true
   right-array q a n e = rw (a, n, take-array, take-back-array) (eq-eqb (q .check) _ e)
 
-  pub whole-array : length ds ≤ 255 → length (array ad ds) ≡ room
+  pub whole-array : length ds ≤ 255 → length (array ad ds) ≡ decoderRoom
   whole-array h = length-append (padded 5 ad) (padded 255 ds) ∙ omega (arith, length-padded 5 ad short, length-padded 255 ds h)
 
   passes-array : length ds ≤ 255 → (q : Claim) → q .possible ≡ true → q .address ≡ length ad → q .loaded ≡ length ds → q .check ≡ checkFrom (q .start) (ad ++ (q .command ∷ q .count ∷ ds))
-      → eqb (length (array ad ds)) room && (q .possible && (isClear q (array ad ds) && isRight q (array ad ds))) ≡ true
-  passes-array h q p a n e = rw (eq-eqb (length (array ad ds)) room (whole-array h), p, clear-array q a n, right-array q a n e)
+      → eqb (length (array ad ds)) decoderRoom && (q .possible && (isClear q (array ad ds) && isRight q (array ad ds))) ≡ true
+  passes-array h q p a n e = rw (eq-eqb (length (array ad ds)) decoderRoom (whole-array h), p, clear-array q a n, right-array q a n e)
 
 -- what was not read is zero and adds nothing to a check
 pub zeros-read : (x : ℕ) (ad : List ℕ) → checkFrom x ad ≡ checkFrom x (ad ++ (0 ∷ 0 ∷ []))
@@ -154,9 +154,9 @@ reachable-phase (loading t l ad c e ds) z k =
     (lt-ltb (length ds) e (z .1)) (sym (z .0)) refl (check-first (delimiter t l) (ad ++ (c ∷ e ∷ ds)))
 reachable-phase (checking w) z k =
     let n : ℕ = length (w .payload) in
-    passes-array (w .address) (w .payload) (omega (arith, z .addressed, address-length-le (w .long))) (z .counted)
+    passes-array (w .address) (w .payload) (omega (arith, z .addressFits, address-length-le (w .long))) (z .countFits)
     (claim true (headAt (w .frameType) (w .long) (checking w)) (addressLength (w .long)) (w .command) n n)
-    refl (sym (z .addressed)) refl (check-first (delimiter (w .frameType) (w .long)) (w .address ++ (w .command ∷ n ∷ w .payload)))
+    refl (sym (z .addressFits)) refl (check-first (delimiter (w .frameType) (w .long)) (w .address ++ (w .command ∷ n ∷ w .payload)))
 
 reachable-blank : (s : State) (p : Bool) → claimOf s ≡ noClaim p → p ≡ true → reachableAt s blank ≡ true
 unfolding reachableAt
@@ -251,8 +251,8 @@ stepped-data n t l ad c m ds b a z small =
 -- at its check byte the arrays hold the frame
 wire-back : (w : Wire) → Fits w → wireAt (headAt (w .frameType) (w .long) (checking w)) (w .command) (length (w .payload)) (array (w .address) (w .payload)) ≡ w
 wire-back w f =
-    let short : length (w .address) ≤ 5 = omega (arith, f .addressed, address-length-le (w .long)) in
-    rw (sym (f .addressed), take-array (w .address) (w .payload) short, take-back-array (w .address) (w .payload) short)
+    let short : length (w .address) ≤ 5 = omega (arith, f .addressFits, address-length-le (w .long)) in
+    rw (sym (f .addressFits), take-array (w .address) (w .payload) short, take-back-array (w .address) (w .payload) short)
 
 stepped-check : (n : ℕ) (w : Wire) (b : ℕ) → Fits w → stepped (real (within n (checking w))) b ≡ (fresh, told (some (closed n w b)))
 unfolding stepped

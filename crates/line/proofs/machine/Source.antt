@@ -1,18 +1,18 @@
 -- On every sequence of feeds and resets that the Rust's decoder completes, it returns what ours is heard to answer: both follow the
--- scanner of the crate line, the Rust's up to the 256th FF of a preamble, where it stops.
+-- scanner of the crate line, the Rust's up to the 256th FF of a preamble, where it stops. SourceStops.antt says this place in the words of
+-- a cut.
 use Prim.Native.Nat.{ℕ, suc, _+_, _-_, _≤_, _<_}
 use native.Mathlib.Omega.{arith}
-use native.Mathlib.Decide.{decLe}
 use native.Mathlib.Numerals.{add-one}
-use mathlib.Core.Path.{_≡_, refl, sym, ap, subst, _∙_}
-use mathlib.Core.Bool.{Bool, true, false, cond}
+use mathlib.Core.Path.{_≡_, refl, sym, ap, _∙_}
+use mathlib.Core.Bool.{Bool, true, false, cond, _||_}
 use mathlib.Core.Option.{Option, none, some}
 use mathlib.Core.List.{List, [], _∷_, _++_, map}
 use lib.Bits.{bitXor}
 use lib.Dec.{eqb, ltb, leb}
 use lib.ListN.{length, take, replicate, length-append}
 use lib.Seq.{take-at}
-use borrow.Author.Tests.{eqb-true, eqb-false, eq-eqb, ne-eqb, lt-ltb, le-ltb, le-leb, lt-leb}
+use borrow.Author.Tests.{eqb-true, eqb-false, eq-eqb, ne-eqb, lt-ltb, le-ltb, le-leb, lt-leb, leb-true, leb-false}
 use Rattle.octets.specs.Check.{check}
 use Rattle.octets.proofs.Check.{check-first, check-snoc}
 use Rattle.refusal.specs.declared.Refusal.the-variants.{InvalidDelimiter}
@@ -49,36 +49,8 @@ use Rattle.line.proofs.Exists.{fine-scan}
 use Rattle.line.specs.machine.Frames.{padded, heardOf}
 use Rattle.line.specs.machine.Feed.{fresh}
 use Rattle.line.specs.machine.Demand.{hears, Call, feeds, resets, heardAlong}
-use Rattle.line.specs.machine.Source.{
-  SourceState,
-  preamble,
-  address,
-  command,
-  byteCount,
-  loading,
-  checksum,
-  SourceDecoder,
-  Result,
-  okNone,
-  err,
-  Run,
-  stops,
-  comes,
-  sourceNew,
-  goto,
-  begin,
-  processDelimiter,
-  sourceFeed,
-  Trace,
-  stopped,
-  returned,
-  before,
-  next,
-  traced,
-  resultOf,
-  SmallCalls,
-  Few,
-}
+use Rattle.octets.specs.Source.{stops}
+use Rattle.line.specs.machine.Source.{SourceState, preamble, address, command, byteCount, loading, checksum, SourceDecoder, Result, okNone, err, SourceRun, comesTo, sourceNew, goto, begin, processDelimiter, sourceFeed, stopped, returned, before, next, traced, resultOf, SmallCalls, firstRun, laterRuns, runsOf}
 use Rattle.types.proofs.Addresses.{address-length-le}
 use Rattle.line.proofs.machine.Padded.{length-padded, padded-set}
 use Rattle.line.proofs.machine.Image.{real, sums-behind, follows}
@@ -111,17 +83,8 @@ sourceOf (pre n) = goto (preamble n) sourceNew
 sourceOf (within n p) = sourceAt p
 
 -- what the scanner gives at a byte, as the Rust gives it
-abbrev sourceImage : Scan × Option Piece → Run
-sourceImage r = comes (sourceOf (r .0)) (resultOf (heardOf (told (r .1))))
-
--- a run that completes comes to that
-abbrev Completes : Run → Run → Type 0
-Completes stops r = Unit {0}
-Completes (comes d x) r = comes d x ≡ r
-
-completes : (q r : Run) → q ≡ r → Completes q r
-completes stops r e = tt
-completes (comes d x) r e = e
+abbrev sourceImage : Scan × Option Piece → SourceRun
+sourceImage r = comesTo (sourceOf (r .0)) (resultOf (heardOf (told (r .1))))
 
 source-address : (n : ℕ) (t : FrameType) (l : Bool) (ad : List ℕ) (b : ℕ) → length ad < addressLength l
     → sourceFeed (sourceOf (within n (addressing t l ad))) b ≡ sourceImage (scan (within n (addressing t l ad)) b)
@@ -198,19 +161,19 @@ source-check n w b f k = by (eqb b (checkOf w)) refl
     by : (y : Bool) → eqb b (checkOf w) ≡ y → sourceFeed (sourceOf (within n (checking w))) b ≡ sourceImage (hunt, some (cond y (frame n w) (badCheck n w b)))
     by true e =
         let short : addressLength (w .long) ≤ 5 = address-length-le (w .long) in
-        let padding : length (padded 5 (w .address)) ≡ 5 = length-padded 5 (w .address) (omega (arith, short, f .addressed)) in
-        let part : take (addressLength (w .long)) (padded 5 (w .address)) ≡ w .address = take-at (w .address) (replicate (5 - length (w .address)) 0) (addressLength (w .long)) (f .addressed) in
+        let padding : length (padded 5 (w .address)) ≡ 5 = length-padded 5 (w .address) (omega (arith, short, f .addressFits)) in
+        let part : take (addressLength (w .long)) (padded 5 (w .address)) ≡ w .address = take-at (w .address) (replicate (5 - length (w .address)) 0) (addressLength (w .long)) (f .addressFits) in
         let loaded : take (length (w .payload)) (padded 255 (w .payload)) ≡ w .payload = take-at (w .payload) (replicate (255 - length (w .payload)) 0) (length (w .payload)) refl in
-        rw (e, le-leb (addressLength (w .long)) (length (padded 5 (w .address))) (omega (arith, short, padding)), part, address-whole-same (w .address) (w .long) (omega (arith, f .addressed)) k, loaded)
+        rw (e, le-leb (addressLength (w .long)) (length (padded 5 (w .address))) (omega (arith, short, padding)), part, address-whole-same (w .address) (w .long) (omega (arith, f .addressFits)) k, loaded)
     by false e = rw e
 
 -- the Rust tries the six delimiters one after the other
-abbrev sourceDelimited : SourceDecoder → ℕ → Delimiter → Run
+abbrev sourceDelimited : SourceDecoder → ℕ → Delimiter → SourceRun
 sourceDelimited d b (Known t l) = begin t l b d
-sourceDelimited d b Unknown = comes sourceNew (err (InvalidDelimiter b))
+sourceDelimited d b Unknown = comesTo sourceNew (err (InvalidDelimiter b))
 
 module _ (d : SourceDecoder) (b : ℕ) where
-  tries : (t : FrameType) (l : Bool) (rest : Delimiter) (otherwise : Run) → sourceDelimited d b rest ≡ otherwise
+  tries : (t : FrameType) (l : Bool) (rest : Delimiter) (otherwise : SourceRun) → sourceDelimited d b rest ≡ otherwise
       → sourceDelimited d b (cond (eqb b (delimiter t l)) (Known t l) rest) ≡ cond (eqb b (delimiter t l)) (begin t l b d) otherwise
   tries t l rest otherwise e = elim (eqb b (delimiter t l)) as (λ y. sourceDelimited d b (cond y (Known t l) rest) ≡ cond y (begin t l b d) otherwise) [ true ↦ refl | false ↦ e ]
 
@@ -228,7 +191,7 @@ source-other : (n b : ℕ) → eqb b 0xFF ≡ false → sourceFeed (sourceOf (pr
 unfolding sourceFeed scan
 source-other n b e = rw e (by (leb 5 n))
   where
-    by : (y : Bool) → cond y (processDelimiter sourceNew b) (comes sourceNew okNone) ≡ sourceImage (cond y (scanEnter n b (delimiterOf b)) (hunt, some (shortRun n b)))
+    by : (y : Bool) → cond y (processDelimiter sourceNew b) (comesTo sourceNew okNone) ≡ sourceImage (cond y (scanEnter n b (delimiterOf b)) (hunt, some (shortRun n b)))
     by true = sym (delimiter-same sourceNew b) ∙ source-delimiter n b (delimiterOf b) (delimiter-right b)
     by false = refl
 
@@ -241,20 +204,9 @@ source-count-out : (n b : ℕ) → eqb b 0xFF ≡ true → 255 ≤ n → sourceF
 unfolding sourceFeed
 source-count-out n b e h = rw (e, le-ltb (n + 1) 256 (omega arith))
 
-source-preamble : (n b : ℕ) → Completes (sourceFeed (sourceOf (pre n)) b) (sourceImage (scan (pre n) b))
-source-preamble n b = by (eqb b 0xFF) refl
-  where
-    by′ : eqb b 0xFF ≡ true → Dec (255 ≤ n) → Completes (sourceFeed (sourceOf (pre n)) b) (sourceImage (scan (pre n) b))
-    by′ e (yes h) = subst (λ (q : Run). Completes q (sourceImage (scan (pre n) b))) (sym (source-count-out n b e h)) tt
-    by′ e (no h) = completes _ _ (source-count-on n b e (omega arith))
-
-    by : (y : Bool) → eqb b 0xFF ≡ y → Completes (sourceFeed (sourceOf (pre n)) b) (sourceImage (scan (pre n) b))
-    by true e = by′ e (decLe 255 n)
-    by false e = completes _ _ (source-other n b e)
-
 source-hunt : (b : ℕ) → sourceFeed sourceNew b ≡ sourceImage (scan hunt b)
 unfolding sourceFeed scan
-source-hunt b = elim (eqb b 0xFF) as (λ y. cond y (comes (goto (preamble 1) sourceNew) okNone) (comes sourceNew okNone) ≡ sourceImage (cond y (pre 1, none) (hunt, some (noise b)))) [ true ↦ refl | false ↦ refl ]
+source-hunt b = elim (eqb b 0xFF) as (λ y. cond y (comesTo (goto (preamble 1) sourceNew) okNone) (comesTo sourceNew okNone) ≡ sourceImage (cond y (pre 1, none) (hunt, some (noise b)))) [ true ↦ refl | false ↦ refl ]
 
 -- at every byte outside a preamble the Rust comes to what the scanner gives
 source-within : (n : ℕ) (p : Phase) (b : ℕ) → Fine (within n p) → sourceFeed (sourceOf (within n p)) b ≡ sourceImage (scan (within n p) b)
@@ -265,104 +217,128 @@ source-within n (counting t l ad c) b f = source-count n t l ad c b
 source-within n (loadingPhase t l ad c m ds) b f = source-data n t l ad c m ds b (f .1 .1) (bytes-right ad (c ∷ m ∷ ds) (f .2 .1) .1 .0)
 source-within n (checking w) b f = source-check n w b (f .1) (bytes-left (w .address) (w .command ∷ length (w .payload) ∷ w .payload) (f .2 .1))
 
-source-follows : (s : Scan) (b : ℕ) → Fine s → Completes (sourceFeed (sourceOf s) b) (sourceImage (scan s b))
-source-follows hunt b f = completes _ _ (source-hunt b)
-source-follows (pre n) b f = source-preamble n b
-source-follows (within n p) b f = completes _ _ (source-within n p b f)
+-- the preamble bytes of the piece that the scanner is in
+abbrev pub preambleOf : Scan → ℕ
+preambleOf hunt = 0
+preambleOf (pre n) = n
+preambleOf (within n p) = n
 
-never : {A : Type 0} (rs : List Result) → stopped ≡ returned rs → A
-never rs e = let z : _≡_ {A = ℕ} 0 1 = cc in absurd (omega arith)
+-- behind a preamble its number stays, until the piece ends
+abbrev pub Stays : ℕ → Scan × Option Piece → Type 0
+Stays n (hunt, none) = ⊥
+Stays n (pre m, none) = ⊥
+Stays n (within m p, none) = m ≡ n
+Stays n (s, some p) = s ≡ hunt
 
--- one call more
-called : (q : Run) (d : SourceDecoder) (x : Result) (cs : List Call) (rs qs : List Result) → Completes q (comes d x) → ((ps : List Result) → traced d cs ≡ returned ps → qs ≡ ps)
-    → next q (λ e. traced e cs) ≡ returned rs → x ∷ qs ≡ rs
-called stops d x cs rs qs c ih e = never rs e
-called (comes d′ x′) d x cs rs qs c ih e = by (traced d cs) refl (ap (λ (q : Run). next q (λ k. traced k cs)) (sym c) ∙ e)
+pub stays-within : (n : ℕ) (p : Phase) (b : ℕ) → Stays n (scanWithin n p b)
+unfolding scanWithin
+stays-within n (addressing t l ad) b =
+    elim (eqb (length (ad ++ (b ∷ []))) (addressLength l)) as (λ y. Stays n (cond y (within n (commanding t l (ad ++ (b ∷ [])))) (within n (addressing t l (ad ++ (b ∷ [])))), none)) [ true ↦ refl | false ↦ refl ]
+stays-within n (commanding t l ad) b = refl
+stays-within n (counting t l ad c) b = elim (eqb 0 b) as (λ y. Stays n (cond y (within n (checking (wire t l ad c []))) (within n (loadingPhase t l ad c b [])), none)) [ true ↦ refl | false ↦ refl ]
+stays-within n (loadingPhase t l ad c m ds) b =
+    elim (eqb (length (ds ++ (b ∷ []))) m) as (λ y. Stays n (cond y (within n (checking (wire t l ad c (ds ++ (b ∷ []))))) (within n (loadingPhase t l ad c m (ds ++ (b ∷ [])))), none)) [ true ↦ refl | false ↦ refl ]
+stays-within n (checking w) b = refl
+
+pub stays-behind : (n b : ℕ) → eqb b 0xFF ≡ false → Stays n (scan (pre n) b)
+unfolding scan
+stays-behind n b e = rw e (by (leb 5 n) (delimiterOf b))
   where
-    by : (t : Trace) → traced d cs ≡ t → before x t ≡ returned rs → x ∷ qs ≡ rs
-    by stopped h k = never rs k
-    by (returned ps) h k = let same : qs ≡ ps = ih ps h in cc
+    by : (y : Bool) (d : Delimiter) → Stays n (cond y (scanEnter n b d) (hunt, some (shortRun n b)))
+    by true (Known t l) = refl
+    by true Unknown = refl
+    by false d = refl
+
+no-more : (n : ℕ) (r : Scan × Option Piece) → Stays n r → preambleOf (r .0) ≤ n
+no-more n (hunt, none) k = absurd k
+no-more n (pre m, none) k = absurd k
+no-more n (within m p, none) k = omega arith
+no-more n (s, some p) k = rw k (omega arith)
+
+-- below 256 the Rust comes to what the scanner gives
+source-goes : (s : Scan) (b : ℕ) → Fine s → preambleOf ((scan s b) .0) < 256 → sourceFeed (sourceOf s) b ≡ sourceImage (scan s b)
+unfolding scan
+source-goes hunt b f h = source-hunt b
+source-goes (pre n) b f h = by (eqb b 0xFF) refl
+  where
+    counted : eqb b 0xFF ≡ true → suc n < 256
+    counted e = rw e at h
+
+    by : (y : Bool) → eqb b 0xFF ≡ y → sourceFeed (sourceOf (pre n)) b ≡ sourceImage (scan (pre n) b)
+    by true e = source-count-on n b e (omega (arith, counted e))
+    by false e = source-other n b e
+source-goes (within n p) b f h = source-within n p b f
+
+-- one more than 255 preamble bytes there are only behind 255 of them, at an FF
+pub crosses : (s : Scan) (b : ℕ) → preambleOf s < 256 → 256 ≤ preambleOf ((scan s b) .0) → (s ≡ pre 255) × (eqb b 0xFF ≡ true)
+unfolding scan
+crosses hunt b h k = absurd (few (eqb b 0xFF) k)
+  where
+    few : (y : Bool) → 256 ≤ preambleOf ((cond {A = Scan × Option Piece} y (pre 1, none) (hunt, some (noise b))) .0) → ⊥
+    few true j = omega arith
+    few false j = omega arith
+crosses (pre n) b h k = by (eqb b 0xFF) refl
+  where
+    by : (y : Bool) → eqb b 0xFF ≡ y → (pre n ≡ pre 255) × (eqb b 0xFF ≡ true)
+    by true e = let over : 256 ≤ suc n = rw e at k in (ap pre (omega arith), e)
+    by false e = absurd (omega (arith, h, k, no-more n (scan (pre n) b) (stays-behind n b e)))
+crosses (within n p) b h k = absurd (omega (arith, h, k, no-more n (scanWithin n p b) (stays-within n p b)))
+
+source-halts : (s : Scan) (b : ℕ) → preambleOf s < 256 → 256 ≤ preambleOf ((scan s b) .0) → sourceFeed (sourceOf s) b ≡ stops
+source-halts s b h k = let at = crosses s b h k in rw (at .0) (source-count-out 255 b (at .1) (omega arith))
+
+-- whether the scanner comes to 256 preamble bytes along a run, or along one of several
+abbrev pub crossing : Scan → List ℕ → Bool
+crossing s [] = false
+crossing s (b ∷ bs) = leb 256 (preambleOf ((scan s b) .0)) || crossing ((scan s b) .0) bs
+
+abbrev pub someCrossing : List (List ℕ) → Bool
+someCrossing [] = false
+someCrossing (run ∷ runs) = crossing hunt run || someCrossing runs
 
 -- what ours is heard to answer at one byte more
 heard-more : (s : Scan) (b : ℕ) (cs : List Call) → Fine s → b < 256 → map resultOf (heardAlong hears fresh (real s) (feeds b ∷ cs)) ≡ resultOf (heardOf (told ((scan s b) .1))) ∷ map resultOf (heardAlong hears fresh (real ((scan s b) .0)) cs)
 heard-more s b cs f k = rw (follows s b f k)
 
-along : (s : Scan) (cs : List Call) → Fine s → SmallCalls cs → (rs : List Result) → traced (sourceOf s) cs ≡ returned rs → map resultOf (heardAlong hears fresh (real s) cs) ≡ rs
-along s [] f k rs e = cc
-along s (resets ∷ cs) f k rs e = along hunt cs tt k rs e
-along s (feeds b ∷ cs) f k rs e =
-    let s′ : Scan = (scan s b) .0 in
-    heard-more s b cs f (k .0) ∙ called (sourceFeed (sourceOf s) b) (sourceOf s′) (resultOf (heardOf (told ((scan s b) .1)))) cs rs (map resultOf (heardAlong hears fresh (real s′) cs)) (source-follows s b f) (along s′ cs (fine-scan s b f (k .0)) (k .1)) e
+trace-along : (s : Scan) (cs : List Call) → Fine s → preambleOf s < 256 → SmallCalls cs
+    → traced (sourceOf s) cs ≡ cond (crossing s (firstRun cs) || someCrossing (laterRuns cs)) stopped (returned (map resultOf (heardAlong hears fresh (real s) cs)))
+trace-along s [] f h k = refl
+trace-along s (resets ∷ cs) f h k = trace-along hunt cs tt (omega arith) k
+trace-along s (feeds b ∷ cs) f h k = by (leb 256 (preambleOf ((scan s b) .0))) refl (λ below. trace-along ((scan s b) .0) cs (fine-scan s b f (k .0)) below (k .1))
+  where
+    s′ : Scan
+    s′ = (scan s b) .0
+
+    x : Result
+    x = resultOf (heardOf (told ((scan s b) .1)))
+
+    later : Bool
+    later = crossing s′ (firstRun cs) || someCrossing (laterRuns cs)
+
+    one-before : (o : Bool) (rs : List Result) → before x (cond o stopped (returned rs)) ≡ cond o stopped (returned (x ∷ rs))
+    one-before true rs = refl
+    one-before false rs = refl
+
+    by : (y : Bool) → leb 256 (preambleOf s′) ≡ y → (preambleOf s′ < 256 → traced (sourceOf s′) cs ≡ cond later stopped (returned (map resultOf (heardAlong hears fresh (real s′) cs))))
+        → traced (sourceOf s) (feeds b ∷ cs) ≡ cond ((y || crossing s′ (firstRun cs)) || someCrossing (laterRuns cs)) stopped (returned (map resultOf (heardAlong hears fresh (real s) (feeds b ∷ cs))))
+    by true e ih = ap (λ (q : SourceRun). next q (λ d. traced d cs)) (source-halts s b h (leb-true 256 (preambleOf s′) e))
+    by false e ih =
+        let below : preambleOf s′ < 256 = leb-false 256 (preambleOf s′) e in
+        ap (λ (q : SourceRun). next q (λ d. traced d cs)) (source-goes s b f below)
+        ∙ ap (before x) (ih below)
+        ∙ one-before later (map resultOf (heardAlong hears fresh (real s′) cs))
+        ∙ ap (λ (rs : List Result). cond later stopped (returned rs)) (sym (heard-more s b cs f (k .0)))
+
+-- the Rust stops where the scanner comes to 256, and nowhere else
+pub source-along : (calls : List Call) → SmallCalls calls → traced sourceNew calls ≡ cond (someCrossing (runsOf calls)) stopped (returned (map resultOf (heardAlong hears fresh fresh calls)))
+source-along calls k = trace-along hunt calls tt (omega arith) k
 
 pub source-same : (calls : List Call) → SmallCalls calls → (rs : List Result) → traced sourceNew calls ≡ returned rs → map resultOf (heardAlong hears fresh fresh calls) ≡ rs
-source-same calls k rs e = along hunt calls tt k rs e
-
--- where the scanner counts preamble bytes, so many FF were fed in a row at least
-abbrev Counts : ℕ → Scan → Type 0
-Counts run hunt = Unit {0}
-Counts run (pre n) = n ≤ run
-Counts run (within n p) = Unit {0}
-
-counts-within : (run n : ℕ) (p : Phase) (b : ℕ) → Counts run ((scanWithin n p b) .0)
-unfolding scanWithin
-counts-within run n (addressing t l ad) b =
-    elim (eqb (length (ad ++ (b ∷ []))) (addressLength l)) as (λ y. Counts run (cond y (within n (commanding t l (ad ++ (b ∷ [])))) (within n (addressing t l (ad ++ (b ∷ [])))))) [ true ↦ tt | false ↦ tt ]
-counts-within run n (commanding t l ad) b = tt
-counts-within run n (counting t l ad c) b = elim (eqb 0 b) as (λ y. Counts run (cond y (within n (checking (wire t l ad c []))) (within n (loadingPhase t l ad c b [])))) [ true ↦ tt | false ↦ tt ]
-counts-within run n (loadingPhase t l ad c m ds) b =
-    elim (eqb (length (ds ++ (b ∷ []))) m) as (λ y. Counts run (cond y (within n (checking (wire t l ad c (ds ++ (b ∷ []))))) (within n (loadingPhase t l ad c m (ds ++ (b ∷ [])))))) [ true ↦ tt | false ↦ tt ]
-counts-within run n (checking w) b = tt
-
-counts-behind : (run n b : ℕ) (y : Bool) (d : Delimiter) → Counts run ((cond y (scanEnter n b d) (hunt, some (shortRun n b))) .0)
-counts-behind run n b true (Known t l) = tt
-counts-behind run n b true Unknown = tt
-counts-behind run n b false d = tt
-
-counts-more : (run : ℕ) (s : Scan) (b : ℕ) → eqb b 0xFF ≡ true → Counts run s → Counts (suc run) ((scan s b) .0)
-unfolding scan
-counts-more run hunt b e c = rw e (omega arith)
-counts-more run (pre n) b e c = rw e (omega arith)
-counts-more run (within n p) b e c = counts-within (suc run) n p b
-
-counts-none : (run : ℕ) (s : Scan) (b : ℕ) → eqb b 0xFF ≡ false → Counts run ((scan s b) .0)
-unfolding scan
-counts-none run hunt b e = rw e tt
-counts-none run (pre n) b e = rw e (counts-behind run n b (leb 5 n) (delimiterOf b))
-counts-none run (within n p) b e = counts-within run n p b
-
--- with fewer than 256 in a row it does not stop
-source-goes : (run : ℕ) (s : Scan) (b : ℕ) → Fine s → Counts run s → (eqb b 0xFF ≡ true → run < 255) → sourceFeed (sourceOf s) b ≡ sourceImage (scan s b)
-source-goes run hunt b f c few = source-hunt b
-source-goes run (pre n) b f c few = by (eqb b 0xFF) refl
+source-same calls k rs e = by (someCrossing (runsOf calls)) (sym (source-along calls k) ∙ e)
   where
-    by : (y : Bool) → eqb b 0xFF ≡ y → sourceFeed (sourceOf (pre n)) b ≡ sourceImage (scan (pre n) b)
-    by true e = source-count-on n b e (omega (arith, few e))
-    by false e = source-other n b e
-source-goes run (within n p) b f c few = source-within n p b f
-
--- what is left of `Few` behind a byte
-few-more : (run b : ℕ) (cs : List Call) → eqb b 0xFF ≡ true → Few run (feeds b ∷ cs) → (run < 255) × Few (suc run) cs
-few-more run b cs e few = rw (Few, e) at few
-
-few-none : (run b : ℕ) (cs : List Call) → eqb b 0xFF ≡ false → Few run (feeds b ∷ cs) → Few 0 cs
-few-none run b cs e few = rw (Few, e) at few
-
-whole : (run : ℕ) (s : Scan) (cs : List Call) → Fine s → Counts run s → SmallCalls cs → Few run cs → traced (sourceOf s) cs ≡ returned (map resultOf (heardAlong hears fresh (real s) cs))
-whole run s [] f c k few = refl
-whole run s (resets ∷ cs) f c k few = whole 0 hunt cs tt tt k few
-whole run s (feeds b ∷ cs) f c k few =
-    let x : Result = resultOf (heardOf (told ((scan s b) .1))) in
-    let rest : traced (sourceOf ((scan s b) .0)) cs ≡ returned (map resultOf (heardAlong hears fresh (real ((scan s b) .0)) cs)) = by (eqb b 0xFF) refl (λ i. whole i ((scan s b) .0) cs (fine-scan s b f (k .0))) in
-    ap (λ (q : Run). next q (λ e. traced e cs)) (source-goes run s b f c (λ e. few-more run b cs e few .0)) ∙ ap (before x) rest ∙ sym (ap returned (heard-more s b cs f (k .0)))
-  where
-    by : (y : Bool) → eqb b 0xFF ≡ y
-        → ((i : ℕ) → Counts i ((scan s b) .0) → SmallCalls cs → Few i cs → traced (sourceOf ((scan s b) .0)) cs ≡ returned (map resultOf (heardAlong hears fresh (real ((scan s b) .0)) cs)))
-        → traced (sourceOf ((scan s b) .0)) cs ≡ returned (map resultOf (heardAlong hears fresh (real ((scan s b) .0)) cs))
-    by true e ih = ih (suc run) (counts-more run s b e c) (k .1) (few-more run b cs e few .1)
-    by false e ih = ih 0 (counts-none 0 s b e) (k .1) (few-none run b cs e few)
-
-pub source-completes : (calls : List Call) → SmallCalls calls → Few 0 calls → traced sourceNew calls ≡ returned (map resultOf (heardAlong hears fresh fresh calls))
-source-completes calls k few = whole 0 hunt calls tt tt k few
+    by : (o : Bool) → cond o stopped (returned (map resultOf (heardAlong hears fresh fresh calls))) ≡ returned rs → map resultOf (heardAlong hears fresh fresh calls) ≡ rs
+    by true z = cc
+    by false z = cc
 
 -- the Rust takes 255 FF and stops at the next
 pub source-takes-255 : traced sourceNew (map feeds (preambles 255)) ≡ returned (replicate 255 okNone)

@@ -1,34 +1,26 @@
 -- The Rust's lines that read an address say what document 01 says of its bits.
-use Prim.Native.Nat.{ℕ, zero, suc, _+_, _*_, _-_, _/_, _%_, _^_, _≤_, _<_}
+use Prim.Native.Nat.{ℕ, _+_, _*_, _^_, _≤_, _<_}
 use native.Mathlib.Omega.{arith}
-use native.Mathlib.Nat.{mod-lt}
 use mathlib.Core.Path.{_≡_, refl, ap, _∙_}
-use mathlib.Core.Bool.{Bool, true, false, cond, not}
+use mathlib.Core.Bool.{Bool, true, false, cond}
 use mathlib.Core.List.{List, [], _∷_}
-use lib.Bits.{bitAnd, bitOr, and-high, and-mask, or-shifted}
-use lib.Dec.{eqb, ltb, lit<}
+use lib.Bits.{bitAnd, bitOr, and-mask, or-shifted}
+use lib.Dec.{ltb, lit<}
 use lib.ListN.{length, getD}
 use borrow.Author.Tests.{eq-eqb, ne-eqb, lt-ltb, le-ltb, ltb-true, ltb-false}
 use Rattle.octets.specs.Digits.{fromDigits}
 use Rattle.octets.proofs.Digits.{below-at}
 use Rattle.types.specs.declared.first.MasterRole.the-variants.{Primary, Secondary}
 use Rattle.types.specs.declared.address.Address.the-variants.{Short, Long}
-use Rattle.octets.specs.Bit.{bit}
 use Rattle.types.specs.First.{masterOf}
-use Rattle.types.specs.Address.{addressLength, shortAddress, readAddress, reads, refused, decoded}
+use Rattle.types.specs.Address.{addressLength, shortAddress, readAddress, addressRead, addressRefused, decoded}
 use Rattle.line.specs.Pieces.{Bytes}
-use Rattle.line.specs.machine.Source.{okAddress, hasBit, sourceMaster, sourceAddress, readingOf}
-
-one-bit : (m p : ℕ) → m < 2 → 0 < p → not (eqb (m * p) 0) ≡ eqb m 1
-one-bit zero p h k = rw (eq-eqb (0 * p) 0 (omega arith))
-one-bit (suc zero) p h k = rw (ne-eqb (1 * p) 0 (omega arith))
-one-bit (suc (suc m)) p h k = absurd (omega arith)
-
-masked : (k b : ℕ) → 0 < 2 ^ k → hasBit b (2 ^ (1 + k) - 2 ^ k) ≡ bit k b
-masked k b h = rw (and-high b 1 k) (one-bit (b / 2 ^ k % 2) (2 ^ k) (mod-lt (b / 2 ^ k) (lit< tt)) h)
+use Rattle.types.specs.StatusSource.{hasBit}
+use Rattle.types.proofs.StatusSource.{masked-bit}
+use Rattle.line.specs.machine.Source.{okAddress, sourceMaster, sourceAddress, readingOf}
 
 master-same : (b : ℕ) → sourceMaster b ≡ masterOf b
-master-same b = ap (λ (t : Bool). cond t Primary Secondary) (masked 7 b (lit< tt))
+master-same b = ap (λ (t : Bool). cond t Primary Secondary) (masked-bit 7 b)
 
 number-same : (high middle low : ℕ) → middle < 256 → low < 256 → bitOr (bitOr (high * 2 ^ 16) (middle * 2 ^ 8)) low ≡ fromDigits 256 (high ∷ middle ∷ low ∷ [])
 number-same high middle low h k =
@@ -37,14 +29,14 @@ number-same high middle low h k =
 
 -- whatever the number of bytes
 short-same : (first : ℕ) → Short (sourceMaster first) (hasBit first 0x40) (bitAnd first 0x0F) ≡ shortAddress first
-short-same first = rw (master-same first, masked 6 first (lit< tt), and-mask first 4)
+short-same first = rw (master-same first, masked-bit 6 first, and-mask first 4)
 
 long-same : (ad : List ℕ) → Bytes ad
     → Long (sourceMaster (getD ad 0 0)) (hasBit (getD ad 0 0) 0x40) (bitAnd (getD ad 0 0) 0x3F) (getD ad 1 0) (bitOr (bitOr (getD ad 2 0 * 2 ^ 16) (getD ad 3 0 * 2 ^ 8)) (getD ad 4 0)) ≡ readAddress true ad
 long-same ad k =
     rw (
       master-same (getD ad 0 0),
-      masked 6 (getD ad 0 0) (lit< tt),
+      masked-bit 6 (getD ad 0 0),
       and-mask (getD ad 0 0) 6,
       number-same (getD ad 2 0) (getD ad 3 0) (getD ad 4 0) (below-at 256 ad k (lit< tt) 3) (below-at 256 ad k (lit< tt) 4),
     )
@@ -56,10 +48,10 @@ address-whole-same ad true n k = rw (le-ltb (length ad) 5 n, long-same ad k)
 pub address-same : (ad : List ℕ) (long : Bool) → Bytes ad → readingOf (sourceAddress ad long) ≡ decoded long ad
 address-same ad long k = by (ltb (length ad) (addressLength long)) refl
   where
-    too-short : (l : Bool) → length ad < addressLength l → readingOf (sourceAddress ad l) ≡ refused 3 []
+    too-short : (l : Bool) → length ad < addressLength l → readingOf (sourceAddress ad l) ≡ addressRefused 3 []
     too-short true h = rw (lt-ltb (length ad) 5 h)
     too-short false h = rw (eq-eqb (length ad) 0 (omega (arith, h)))
 
-    by : (y : Bool) → ltb (length ad) (addressLength long) ≡ y → readingOf (sourceAddress ad long) ≡ cond y (refused 3 []) (reads (readAddress long ad) (addressLength long))
+    by : (y : Bool) → ltb (length ad) (addressLength long) ≡ y → readingOf (sourceAddress ad long) ≡ cond y (addressRefused 3 []) (addressRead (readAddress long ad) (addressLength long))
     by true e = too-short long (ltb-true (length ad) (addressLength long) e)
     by false e = ap readingOf (address-whole-same ad long (ltb-false (length ad) (addressLength long) e) k)

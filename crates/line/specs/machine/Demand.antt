@@ -7,8 +7,8 @@ use lib.ListN.{length}
 use Rattle.refusal.specs.declared.Refusal.{Refusal}
 use Rattle.line.specs.Pieces.{Piece, Bytes, joined, Cut}
 use Rattle.line.specs.Events.{verdict, dictated, gather, framesIn, refusalsIn}
-use Rattle.line.specs.Runs.{says, ends}
-use Rattle.line.specs.machine.Room.{room}
+use Rattle.line.specs.Runs.{says, endsIn}
+use Rattle.line.specs.machine.Room.{decoderRoom}
 use Rattle.line.specs.machine.Frames.{frameOf, heardOf}
 use Rattle.line.specs.machine.Feed.{Held, feeding}
 use Rattle.line.specs.declared.state.Head.{Head}
@@ -58,13 +58,13 @@ pub record Answered {D : Type 0} (hearing : D → ℕ → D × Heard) (new : D) 
   pub answers : says hearing new run ≡ map heardOf (dictated pieces rest)
   pub frames : framesHeard (says hearing new run) ≡ map frameOf (gather framesIn (map verdict pieces))
   pub refusals : refusalsHeard (says hearing new run) ≡ gather refusalsIn (map verdict pieces)
-  pub again : ends hearing new (joined pieces) ≡ new
+  pub again : endsIn hearing new (joined pieces) ≡ new
 
 -- some run of bytes leads a new decoder to it
 pub record Reached {D : Type 0} (hearing : D → ℕ → D × Heard) (new : D) (d : D) : Type 0 where
   pub run : List ℕ
   pub small : Bytes run
-  pub leads : ends hearing new run ≡ d
+  pub leads : endsIn hearing new run ≡ d
 
 -- any calls of a decoder: bytes fed and resets, and what is heard at each byte
 pub data Call : Type 0 where
@@ -94,4 +94,4 @@ SmallState (Checksum h c e) = SmallHead h × (c < 256) × (e < 256)
 pub record Value (d : Held) : Type 0 where
   pub state : SmallState (d .state)
   pub bytes : Bytes (d .bytes)
-  pub whole : length (d .bytes) ≡ room
+  pub whole : length (d .bytes) ≡ decoderRoom

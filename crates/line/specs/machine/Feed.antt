@@ -3,8 +3,8 @@ use Prim.Native.Nat.{ℕ}
 use mathlib.Core.Bool.{Bool, cond}
 use mathlib.Core.List.{List, []}
 use lib.ListN.{replicate}
-use Rattle.line.specs.Events.{Event, silence, found, refused, refusal}
-use Rattle.line.specs.machine.Room.{room}
+use Rattle.line.specs.Events.{Event, silence, found, rejected, refusal}
+use Rattle.line.specs.machine.Room.{decoderRoom}
 use Rattle.line.specs.machine.Frames.{wireAt}
 use Rattle.line.specs.machine.Step.{movedAt, storedAt}
 use Rattle.line.specs.machine.Reachable.{reachableAt}
@@ -24,7 +24,7 @@ holding s bs = record { state = s; bytes = bs }
 
 -- no byte of a frame read yet
 unfoldable pub blank : List ℕ
-blank = replicate room 0
+blank = replicate decoderRoom 0
 
 abbrev pub fresh : Held
 fresh = holding Hunting blank
@@ -36,13 +36,13 @@ reachable d = reachableAt (d .state) (d .bytes)
 abbrev pub eventOf : Ended → List ℕ → Event
 eventOf ended.Nothing bs = silence
 eventOf (ended.Frame h c n) bs = found (wireAt h c n bs)
-eventOf (ended.Refused r) bs = refused r
+eventOf (ended.Refused r) bs = rejected r
 
 -- a piece that is over leaves a new decoder, and its event
 abbrev pub settledBy : Ended → State → List ℕ → Held × Event
 settledBy ended.Nothing s bs = (holding s bs, silence)
 settledBy (ended.Frame h c n) s bs = (fresh, found (wireAt h c n bs))
-settledBy (ended.Refused r) s bs = (fresh, refused r)
+settledBy (ended.Refused r) s bs = (fresh, rejected r)
 
 abbrev pub settled : Moved → List ℕ → Held × Event
 settled m bs = settledBy (m .ended) (m .state) bs

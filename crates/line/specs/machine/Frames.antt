@@ -8,7 +8,7 @@ use Rattle.types.specs.declared.first.MasterRole.the-variants.{Secondary}
 use Rattle.types.specs.declared.address.Address.the-variants.{Short}
 use Rattle.types.specs.Address.{addressLength, readAddress}
 use Rattle.line.specs.Layout.{Wire}
-use Rattle.line.specs.Events.{Event, silence, found, refused}
+use Rattle.line.specs.Events.{Event, silence, found, rejected}
 use Rattle.line.specs.machine.Room.{addressRoom, dataRoom}
 use Rattle.line.specs.declared.state.Head.{Head}
 use Rattle.line.specs.declared.frame.Frame.{Frame}
@@ -54,12 +54,12 @@ wireAt h command n bs = record {
 abbrev pub answerOf : Event → Answer
 answerOf silence = Silence
 answerOf (found w) = Found
-answerOf (refused r) = Refused r
+answerOf (rejected r) = Refused r
 
 abbrev pub frameBeside : Event → Frame
 frameBeside silence = noFrame
 frameBeside (found w) = frameOf w
-frameBeside (refused r) = noFrame
+frameBeside (rejected r) = noFrame
 
 abbrev pub heardOf : Event → Heard
 heardOf e = record { answer = answerOf e; frame = frameBeside e }

@@ -1,4 +1,6 @@
--- Which decoders some run of bytes leads to, as a test. That it is exact is a theorem: proofs/Exact.antt.
+-- What only the code needs, and no sentence of document 01 says: a test of which decoders some run of bytes leads to, by what a state claims
+-- of the bytes beside it. Document 01's own sentence is Reached in Demand; that the test takes these and no other is a theorem,
+-- proofs/machine/Exact.antt.
 use Prim.Native.Nat.{ℕ}
 use mathlib.Core.Bool.{Bool, true, _&&_}
 use mathlib.Core.List.{List, [], _∷_, _++_}
@@ -7,7 +9,7 @@ use lib.Dec.{eqb, ltb, leb}
 use Rattle.octets.specs.Check.{checkFrom}
 use Rattle.types.specs.Delimiter.{delimiter}
 use Rattle.types.specs.Address.{addressLength}
-use Rattle.line.specs.machine.Room.{addressRoom, room}
+use Rattle.line.specs.machine.Room.{addressRoom, decoderRoom}
 use Rattle.line.specs.declared.state.Head.{Head}
 use Rattle.line.specs.declared.state.State.{State}
 use Rattle.line.specs.declared.state.State.the-variants.{
@@ -68,4 +70,4 @@ isRight q bs =
     eqb (q .check) (checkFrom (q .start) (take (q .address) bs ++ (q .command ∷ q .count ∷ take (q .loaded) (drop addressRoom bs))))
 
 unfoldable pub reachableAt : State → List ℕ → Bool
-reachableAt s bs = eqb (length bs) room && (claimOf s .possible && (isClear (claimOf s) bs && isRight (claimOf s) bs))
+reachableAt s bs = eqb (length bs) decoderRoom && (claimOf s .possible && (isClear (claimOf s) bs && isRight (claimOf s) bs))

@@ -47,10 +47,13 @@ abbrev pub delimited : ℕ → Delimiter → Moved
 delimited b (Known t long) = going (Address (headOf t long b) 0)
 delimited b Unknown = over (Refused (refusalOf 4 (b ∷ [])))
 
--- five FF are enough, and are not counted past; behind fewer any other byte is passed over
+-- one FF more: the preamble count saturates at 5
+abbrev pub saturated : ℕ → ℕ
+saturated n = cond (ltb n 5) (n + 1) 5
+
+-- five FF are enough; behind fewer any other byte is passed over
 abbrev pub preambled : ℕ → ℕ → Moved
-preambled n b =
-    cond (eqb b 0xFF) (going (Preamble (cond (ltb n 5) (n + 1) 5))) (cond (ltb n 5) (going Hunting) (delimited b (delimiterOf b)))
+preambled n b = cond (eqb b 0xFF) (going (Preamble (saturated n))) (cond (ltb n 5) (going Hunting) (delimited b (delimiterOf b)))
 
 -- one byte more in the running check
 abbrev pub mixed : Head → ℕ → Head
@@ -61,8 +64,8 @@ abbrev pub addressed : Head → ℕ → ℕ → Moved
 addressed h k b = going (cond (ltb (k + 1) (addressLength (h .long))) (Address (mixed h b) (k + 1)) (Command (mixed h b)))
 
 -- the byte count: data follow, or the check
-abbrev pub counted : Head → ℕ → ℕ → Moved
-counted h c b = going (cond (eqb b 0) (Checksum (mixed h b) c 0) (Data (mixed h b) c b 0))
+abbrev pub byteCounted : Head → ℕ → ℕ → Moved
+byteCounted h c b = going (cond (eqb b 0) (Checksum (mixed h b) c 0) (Data (mixed h b) c b 0))
 
 -- data byte n of e
 abbrev pub loaded : Head → ℕ → ℕ → ℕ → ℕ → Moved
@@ -78,7 +81,7 @@ movedAt Hunting b = hunted b
 movedAt (Preamble n) b = preambled n b
 movedAt (Address h k) b = addressed h k b
 movedAt (Command h) b = going (ByteCount (mixed h b) b)
-movedAt (ByteCount h c) b = counted h c b
+movedAt (ByteCount h c) b = byteCounted h c b
 movedAt (Data h c e n) b = loaded h c e n b
 movedAt (Checksum h c e) b = checked h c e b
 

@@ -5,7 +5,7 @@ use mathlib.Core.Path.{_≡_, ap, ap₂, _∙_}
 use lib.ListN.{length, replicate}
 use borrow.Author.Needs.{needs}
 use Rattle.framing.specs.Payload.{carries}
-use Rattle.commands.specs.Variables.{groupsOf, reads}
+use Rattle.commands.specs.Variables.{groupsOf, readsVariables}
 use Rattle.commands.proofs.read_device_vars.Groups.{placed, placed-turn}
 use Rattle.commands.proofs.read_device_vars.decode_groups.Statement.{statement}
 use Rattle.commands.proofs.read_device_vars.decode_groups.Tie as tie
@@ -52,7 +52,7 @@ returns c =
     let n = groupsOf (length bs) in
     let counted : l .before .whole-groups .result ≡ n = l .before .whole-groups .ensures in
     let passed : l .loop .i ≡ n = omega arith in
-    ap₂ (reads carries) counted (l .loop .inv .1 ∙ ap (placed bs) passed)
+    ap₂ (readsVariables carries) counted (l .loop .inv .1 ∙ ap (placed bs) passed)
 
 pub decode-groups-spec : {M : Type 1} → statement M
 decode-groups-spec =

@@ -11,20 +11,20 @@ use Rattle.packed_string.specs.declared.text_group.Mode.{Mode}
 use Rattle.framing.specs.Payload.{carries}
 use Rattle.commands.specs.Modes.{unpackedIn}
 use Rattle.commands.proofs.Texts.{leftBy, unpacks-full}
-use Rattle.commands.specs.TagDescriptorDate.{reads, fieldsRead}
+use Rattle.commands.specs.TagDescriptorDate.{readsFields, fieldsRead}
 use Rattle.commands.proofs.write_tag_descriptor_date.Layouts.{read-short, read-whole}
 use Rattle.commands.proofs.write_tag_descriptor_date.decode_data.Statement.{statement}
 use Rattle.commands.proofs.write_tag_descriptor_date.decode_data.Tie as tie
 
 -- both texts as their calls left them, and the date
 fields-made : (mode : Mode) (bs : List ℕ) {r s : Reply} {tag descriptor : List ℕ} → 21 ≤ length bs → ends r tag ≡ unpackedIn mode (take 6 bs) (replicate 8 0x20)
-    → ends s descriptor ≡ unpackedIn mode (take 12 (drop 6 bs)) (replicate 16 0x20) → reads carries tag descriptor (getD bs 18 0) (getD bs 19 0) (getD bs 20 0) ≡ fieldsRead mode bs
+    → ends s descriptor ≡ unpackedIn mode (take 12 (drop 6 bs)) (replicate 16 0x20) → readsFields carries tag descriptor (getD bs 18 0) (getD bs 19 0) (getD bs 20 0) ≡ fieldsRead mode bs
 fields-made mode bs h e f =
     let first : length (take 6 bs) ≡ 6 = length-take-le 6 bs (omega arith) in
     let second : length (take 12 (drop 6 bs)) ≡ 12 = length-take-le 12 (drop 6 bs) (omega (arith, length-drop 6 bs)) in
     let t = ap leftBy (e ∙ unpacks-full mode (take 6 bs) (replicate 8 0x20) (omega arith) (omega arith)) in
     let d = ap leftBy (f ∙ unpacks-full mode (take 12 (drop 6 bs)) (replicate 16 0x20) (omega arith) (omega arith)) in
-    ap₂ (λ (x y : List ℕ). reads carries x y (getD bs 18 0) (getD bs 19 0) (getD bs 20 0)) t d ∙ sym (read-whole mode bs h)
+    ap₂ (λ (x y : List ℕ). readsFields carries x y (getD bs 18 0) (getD bs 19 0) (getD bs 20 0)) t d ∙ sym (read-whole mode bs h)
 
 returns : tie.Need-returns
 returns c = c .refused .ensures ∙ sym (read-short (c .before .before .before .args .mode) (c .before .before .before .args .«data» .now) (omega arith))

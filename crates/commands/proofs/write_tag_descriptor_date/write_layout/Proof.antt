@@ -12,14 +12,14 @@ use Rattle.octets.proofs.Put.{length-put}
 use Rattle.packed_string.specs.declared.text_group.Mode.{Mode}
 use Rattle.commands.specs.Modes.{packedText, packedIn, badIn}
 use Rattle.commands.proofs.Texts.{good-in-first, good-in-second, lent-text}
-use Rattle.commands.specs.TagDescriptorDate.{layout}
+use Rattle.commands.specs.TagDescriptorDate.{tagDescriptorDateLayout}
 use Rattle.commands.proofs.write_tag_descriptor_date.Layouts.{length-tag, fields-put}
 use Rattle.commands.proofs.write_tag_descriptor_date.write_layout.Statement.{statement}
 use Rattle.commands.proofs.write_tag_descriptor_date.write_layout.Tie as tie
 
 fields-written : (mode : Mode) (tag descriptor : List ℕ) (day month year : ℕ) (l : List ℕ) {r s : Reply} {p q : List ℕ} → length tag ≡ 8 → length descriptor ≡ 16 → 21 ≤ length l → 24 ≤ badIn mode (tag ++ descriptor)
     → ends r p ≡ packedIn mode tag (midOf 0 6 l) → ends s q ≡ packedIn mode descriptor (midOf 6 12 (putMid 0 6 l p))
-    → set (set (set (putMid 6 12 (putMid 0 6 l p) q) 18 day) 19 month) 20 year ≡ put l 0 (layout mode tag descriptor day month year)
+    → set (set (set (putMid 6 12 (putMid 0 6 l p) q) 18 day) 19 month) 20 year ≡ put l 0 (tagDescriptorDateLayout mode tag descriptor day month year)
 fields-written mode tag descriptor day month year l {p = p} t d room good e f =
     let b = putMid 0 6 l p in
     let first : b ≡ put l 0 (packedText mode tag) = lent-text mode tag l 0 6 (omega arith) (omega arith) (good-in-first mode tag descriptor (omega arith)) e in

@@ -12,7 +12,7 @@ use Rattle.refusal.specs.Outcome.{Reply, ends, wrote}
 use Rattle.types.specs.declared.address.Address.{Address}
 use Rattle.types.specs.declared.address.AddressRead.{AddressRead}
 use Rattle.types.specs.declared.address.AddressRead.the-variants.{Read, Refused}
-use Rattle.types.specs.Address.{addressLength, isLong, readAddress, addressBytes, addressWritten, reads, refused, readOf, decoded}
+use Rattle.types.specs.Address.{addressLength, isLong, readAddress, addressBytes, addressWritten, addressRead, addressRefused, readOf, decoded}
 use Rattle.types.proofs.Addresses.{address-length-le, address-fits, length-address, read-taken, long-read}
 use Rattle.octets.specs.Figures.{hex}
 use Rattle.dump_lines.proofs.Words.{reworded}
@@ -29,24 +29,24 @@ written-front a {r} {after} e =
 
 -- the bytes are enough, so that the address is read, from as many of them as it has
 module _ (long : Bool) (bs : List ℕ) (size : length bs ≡ 260) (r : AddressRead) (e : readOf r ≡ decoded long bs) where
-  enough : readOf r ≡ reads (readAddress long bs) (addressLength long)
+  enough : readOf r ≡ addressRead (readAddress long bs) (addressLength long)
   enough =
-      e ∙ ap (λ (t : Bool). cond t (refused 3 []) (reads (readAddress long bs) (addressLength long))) (le-ltb (length bs) (addressLength long) (omega (arith, address-length-le long)))
+      e ∙ ap (λ (t : Bool). cond t (addressRefused 3 []) (addressRead (readAddress long bs) (addressLength long))) (le-ltb (length bs) (addressLength long) (omega (arith, address-length-le long)))
 
   not-refused : (x : Refusal) → r ≡ Refused x → ⊥
   not-refused x f =
-      let g : readOf (Refused x) ≡ reads (readAddress long bs) (addressLength long) = sym (ap readOf f) ∙ enough in
+      let g : readOf (Refused x) ≡ addressRead (readAddress long bs) (addressLength long) = sym (ap readOf f) ∙ enough in
       let z : _≡_ {A = ℕ} 0 1 = cc in
       omega arith
 
   was-read : (a : Address) (used : ℕ) → r ≡ Read a used → a ≡ readAddress long (take (addressLength long) bs)
   was-read a used f =
-      let g : reads a used ≡ reads (readAddress long bs) (addressLength long) = sym (ap readOf f) ∙ enough in
+      let g : addressRead a used ≡ addressRead (readAddress long bs) (addressLength long) = sym (ap readOf f) ∙ enough in
       let h : a ≡ readAddress long bs = cc in
       h ∙ read-taken long bs
 
   was-used : (a : Address) (used : ℕ) → r ≡ Read a used → used ≡ addressLength long
-  was-used a used f = let g : reads a used ≡ reads (readAddress long bs) (addressLength long) = sym (ap readOf f) ∙ enough in cc
+  was-used a used f = let g : addressRead a used ≡ addressRead (readAddress long bs) (addressLength long) = sym (ap readOf f) ∙ enough in cc
 
 returns : tie.Need-returns
 returns c =

@@ -3,7 +3,8 @@ use native.Mathlib.Omega.{arith}
 use borrow.Author.Tests.{lt-ltb, le-ltb}
 use Rattle.octets.proofs.Put.{put-wrote}
 use Rattle.dump_lines.specs.Text.{endLine, lineMax}
-use Rattle.dump_lines.specs.Writing.{Writes, endWritten}
+use Rattle.dump_lines.specs.Writing.{endWritten}
+use Rattle.dump_lines.specs.Code.{Writes}
 use Rattle.dump_lines.proofs.Words.{joined}
 use borrow.Author.Needs.{needs}
 use Rattle.dump_lines.proofs.dump_text.write_end.Statement.{statement}

@@ -14,7 +14,7 @@ use Rattle.types.specs.Delimiter.{delimiter}
 use Rattle.types.specs.Address.{addressLength, isLong, addressBytes}
 use Rattle.line.specs.Layout.{preambles, body, checkOf}
 use Rattle.line.specs.Encode.{wireOf, layout, total}
-use Rattle.framing.specs.Head.{head}
+use Rattle.framing.specs.Code.{head}
 use Rattle.framing.proofs.Heads.{length-head, head-body}
 use borrow.Author.Needs.{needs}
 use Rattle.framing.proofs.encode.write_frame.Statement.{statement}
