@@ -8,11 +8,11 @@ use Rattle.refusal.proofs.Untouched.{untouched-refuses, untouched-wrote, untouc
 use Rattle.packed_string.specs.declared.text_group.Mode.{Mode}
 use Rattle.commands.specs.Modes.{packedText, badIn, fieldsWritten}
 use Rattle.commands.specs.Tag.{tagRequested}
-use Rattle.commands.specs.TagDescriptorDate as date
-use Rattle.commands.specs.Variables as variables
+use Rattle.commands.specs.TagDescriptorDate.{tagDescriptorDateLayout, tagDescriptorDateRequested}
+use Rattle.commands.specs.Variables.{codesRequested}
 
-pub command-9-untouched : (codes : List ℕ) → Untouched (variables.codesRequested codes)
-unfolding variables.codesRequested
+pub command-9-untouched : (codes : List ℕ) → Untouched (codesRequested codes)
+unfolding codesRequested
 command-9-untouched codes =
     untouched-either (λ buffer. ltb 8 (length codes)) (untouched-refuses 1 [])
     (untouched-either (λ buffer. ltb (length buffer) (length codes)) (untouched-refuses 2 [])
@@ -25,10 +25,10 @@ command-11-untouched mode tag =
     (untouched-either (λ buffer. ltb (badIn mode tag) (length tag)) (untouched-refuses 7 (badIn mode tag ∷ []))
     (untouched-wrote (packedText mode tag)))
 
-pub command-18-untouched : (mode : Mode) (tag descriptor : List ℕ) (day month year : ℕ) → Untouched (date.tagDescriptorDateRequested mode tag descriptor day month year)
-unfolding date.tagDescriptorDateRequested fieldsWritten
+pub command-18-untouched : (mode : Mode) (tag descriptor : List ℕ) (day month year : ℕ) → Untouched (tagDescriptorDateRequested mode tag descriptor day month year)
+unfolding tagDescriptorDateRequested fieldsWritten
 command-18-untouched mode tag descriptor day month year =
     let text = tag ++ descriptor in
     untouched-either (λ buffer. ltb (length buffer) 21) (untouched-refuses 2 [])
     (untouched-either (λ buffer. ltb (badIn mode text) (length text)) (untouched-refuses 7 (badIn mode text ∷ []))
-    (untouched-wrote (date.tagDescriptorDateLayout mode tag descriptor day month year)))
+    (untouched-wrote (tagDescriptorDateLayout mode tag descriptor day month year)))

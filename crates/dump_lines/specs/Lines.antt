@@ -6,8 +6,7 @@ use lib.Dec.{ltb}
 use lib.ListN.{length, take}
 use Rattle.line.specs.Events.{Event, silence, found, rejected}
 use Rattle.line.specs.declared.state.State.{State}
-use Rattle.line.specs.machine.Feed.{Held, holding, stepped}
-use Rattle.line.specs.machine.Feed.{fresh as freshHeld}
+use Rattle.line.specs.machine.Feed.{Held, holding, stepped, fresh}
 use Rattle.dump_lines.specs.Text.{lineOf, endLine, lineMax}
 use Rattle.dump_lines.specs.declared.Totals.{Totals}
 use Rattle.dump_lines.specs.declared.Dump.{Dump}
@@ -39,7 +38,7 @@ abbrev pub heldByDump : Dump → Held
 heldByDump d = holding (d .state) (d .bytes)
 
 abbrev pub freshDump : Dump
-freshDump = dumpOf freshHeld (totalsOf 0 0 0)
+freshDump = dumpOf fresh (totalsOf 0 0 0)
 
 -- one byte: the dump behind it, and the line that is printed at it. Its place is the number of bytes before it
 abbrev pub nextDump : Dump → ℕ → Dump

@@ -11,10 +11,8 @@ use Rattle.line.proofs.Machines.{renamed-says, renamed-ends}
 use Rattle.line.proofs.Scan.{hunt, scan, told}
 use Rattle.line.proofs.Follows.{demand}
 use Rattle.line.specs.machine.Frames.{answerOf, heardOf}
-use Rattle.line.specs.machine.Feed.{Held}
-use Rattle.line.specs.machine.Feed as held
-use Rattle.line.specs.machine.Demand as held-demand
-use Rattle.line.specs.machine.Demand.{Call, feeds, resets}
+use Rattle.line.specs.machine.Feed.{Held, fresh}
+use Rattle.line.specs.machine.Demand.{Call, feeds, resets, hears}
 use Rattle.line.specs.machine.Source.{Result, sourceNew, returned, traced, resultOf, SmallCalls, runsOf, SomeOverlong}
 use Rattle.line.specs.declared.frame.Heard.{Heard}
 use Rattle.line.proofs.machine.Image.{real, follows}
@@ -28,24 +26,24 @@ use Rattle.framing.specs.Demand.{decoderHears, DecoderAnswered, DecoderR
 use Rattle.framing.specs.declared.decode.Decoder.{Decoder}
 
 -- both ways the names change and nothing else
-to-decoder : (h : Held) (b : ℕ) → decoderHears (decoderOf h) b ≡ (decoderOf ((held-demand.hears h b) .0), (held-demand.hears h b) .1)
+to-decoder : (h : Held) (b : ℕ) → decoderHears (decoderOf h) b ≡ (decoderOf ((hears h b) .0), (hears h b) .1)
 to-decoder h b = refl
 
-to-held : (d : Decoder) (b : ℕ) → held-demand.hears (heldOf d) b ≡ (heldOf ((decoderHears d b) .0), (decoderHears d b) .1)
+to-held : (d : Decoder) (b : ℕ) → hears (heldOf d) b ≡ (heldOf ((decoderHears d b) .0), (decoderHears d b) .1)
 to-held d b = refl
 
 pub feeding-demand : (run : List ℕ) → Bytes run → Demand feedingDecoder freshDecoder run
 feeding-demand run k = demand feedingDecoder (λ s. decoderOf (real s)) (λ s b f h. ap renamed (follows s b f h)) run k
 
 pub answered : (run : List ℕ) → Bytes run → DecoderAnswered run
-answered run k = renamed-answered held-demand.hears decoderHears decoderOf to-decoder held.fresh run (any.answered run k)
+answered run k = renamed-answered hears decoderHears decoderOf to-decoder fresh run (any.answered run k)
 
 -- what is heard, byte by byte, is what the scanner gives: a way to compute it without the 260 bytes
 pub heard-scanned : (run : List ℕ) → Bytes run → says decoderHears freshDecoder run ≡ map heardOf (map told (says scan hunt run))
-heard-scanned run k = renamed-says held-demand.hears decoderHears decoderOf to-decoder held.fresh run ∙ any.heard-scanned run k
+heard-scanned run k = renamed-says hears decoderHears decoderOf to-decoder fresh run ∙ any.heard-scanned run k
 
 pub ends-scanned : (run : List ℕ) → Bytes run → endsIn decoderHears freshDecoder run ≡ decoderOf (real (endsIn scan hunt run))
-ends-scanned run k = renamed-ends held-demand.hears decoderHears decoderOf to-decoder held.fresh run ∙ ap decoderOf (any.ends-scanned run k)
+ends-scanned run k = renamed-ends hears decoderHears decoderOf to-decoder fresh run ∙ ap decoderOf (any.ends-scanned run k)
 
 -- calls that only feed hear what the run gives
 pub fed-along : (d : Decoder) (run : List ℕ) → decoderHeardAlong d (map feeds run) ≡ says decoderHears d run
@@ -57,30 +55,30 @@ reset-starts d before after = any.reset-starts decoderHears freshDecoder d befor
 
 -- each value that a run leads to passes the test
 pub reached-reachable : (d : Decoder) → DecoderReached d → decoderReachable d ≡ true
-reached-reachable d r = exact.reached-reachable (heldOf d) (renamed-reached decoderHears held-demand.hears heldOf to-held freshDecoder d r)
+reached-reachable d r = exact.reached-reachable (heldOf d) (renamed-reached decoderHears hears heldOf to-held freshDecoder d r)
 
 -- and each value of the type that passes it has a run
 pub reachable-reached : (d : Decoder) → DecoderValue d → decoderReachable d ≡ true → DecoderReached d
 reachable-reached d v t =
-    renamed-reached held-demand.hears decoderHears decoderOf to-decoder held.fresh (heldOf d) (exact.reachable-reached (heldOf d) v t)
+    renamed-reached hears decoderHears decoderOf to-decoder fresh (heldOf d) (exact.reachable-reached (heldOf d) v t)
 
 -- 8 for what no run leads to, with the decoder as it was
 pub unreached-eight : (d : Decoder) (b : ℕ) → DecoderValue d → (DecoderReached d → ⊥) → fed d b ≡ fedOf (d, refusal 8 [])
 unreached-eight d b v never =
     ap (λ (x : Held × Event). fedOf (renamed x))
-    (exact.unreached-eight (heldOf d) b v (λ r. never (renamed-reached held-demand.hears decoderHears decoderOf to-decoder held.fresh (heldOf d) r)))
+    (exact.unreached-eight (heldOf d) b v (λ r. never (renamed-reached hears decoderHears decoderOf to-decoder fresh (heldOf d) r)))
 
 -- and never for what a run leads to
 pub reached-no-eight : (d : Decoder) (b : ℕ) → b < 256 → DecoderReached d → fed d b .heard .answer ≡ answerOf (refusal 8 []) → ⊥
-reached-no-eight d b h r e = exact.reached-no-eight (heldOf d) b h (renamed-reached decoderHears held-demand.hears heldOf to-held freshDecoder d r) e
+reached-no-eight d b h r e = exact.reached-no-eight (heldOf d) b h (renamed-reached decoderHears hears heldOf to-held freshDecoder d r) e
 
 -- on every sequence of feeds and resets that the Rust's decoder completes, it returns what ours is heard to answer
 pub source-same : (calls : List Call) → SmallCalls calls → (rs : List Result) → traced sourceNew calls ≡ returned rs → map resultOf (decoderHeardAlong freshDecoder calls) ≡ rs
 source-same calls k rs e =
-    ap (map resultOf) (renamed-along held-demand.hears decoderHears decoderOf to-decoder held.fresh held.fresh calls) ∙ source.source-same calls k rs e
+    ap (map resultOf) (renamed-along hears decoderHears decoderOf to-decoder fresh fresh calls) ∙ source.source-same calls k rs e
 
 -- and unless a preamble in the cut of a run has 256 FF, where it stops (`source-stops` of line), it completes them all
 pub source-completes : (calls : List Call) → SmallCalls calls → (SomeOverlong (runsOf calls) → ⊥) → traced sourceNew calls ≡ returned (map resultOf (decoderHeardAlong freshDecoder calls))
 source-completes calls k few =
     stops.source-completes calls k few
-    ∙ ap (λ (hs : List Heard). returned (map resultOf hs)) (sym (renamed-along held-demand.hears decoderHears decoderOf to-decoder held.fresh held.fresh calls))
+    ∙ ap (λ (hs : List Heard). returned (map resultOf hs)) (sym (renamed-along hears decoderHears decoderOf to-decoder fresh fresh calls))

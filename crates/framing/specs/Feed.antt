@@ -3,8 +3,7 @@ use Prim.Native.Nat.{ℕ}
 use mathlib.Core.Bool.{Bool}
 use Rattle.line.specs.Events.{Event}
 use Rattle.line.specs.machine.Frames.{heardOf}
-use Rattle.line.specs.machine.Feed as machine
-use Rattle.line.specs.machine.Feed.{Held}
+use Rattle.line.specs.machine.Feed.{Held, feeding, fresh, reachable}
 use Rattle.framing.specs.declared.decode.Decoder.{Decoder}
 use Rattle.framing.specs.declared.decode.Fed.{Fed}
 
@@ -15,10 +14,10 @@ abbrev pub heldOf : Decoder → Held
 heldOf d = record { state = d .state; bytes = d .bytes }
 
 abbrev pub freshDecoder : Decoder
-freshDecoder = decoderOf machine.fresh
+freshDecoder = decoderOf fresh
 
 abbrev pub decoderReachable : Decoder → Bool
-decoderReachable d = machine.reachable (heldOf d)
+decoderReachable d = reachable (heldOf d)
 
 -- what is held is handed on as a decoder
 abbrev pub renamed : Held × Event → Decoder × Event
@@ -26,7 +25,7 @@ renamed x = (decoderOf (x .0), x .1)
 
 -- one byte into any decoder: what no run leads to gets 8 and comes back as it was
 abbrev pub feedingDecoder : Decoder → ℕ → Decoder × Event
-feedingDecoder d b = renamed (machine.feeding (heldOf d) b)
+feedingDecoder d b = renamed (feeding (heldOf d) b)
 
 -- the same as callers see it
 abbrev pub fedOf : Decoder × Event → Fed

@@ -13,7 +13,7 @@ use Rattle.types.specs.declared.address.Address.{Address}
 use Rattle.types.specs.declared.address.Address.the-variants.{Short, Long}
 use Rattle.line.specs.Layout.{preambles}
 use Rattle.line.specs.Events.{silence, refusal}
-use Rattle.line.specs.Runs as runs
+use Rattle.line.specs.Runs.{endsIn, says}
 use Rattle.line.specs.Encode.{encoded}
 use Rattle.line.specs.machine.Frames.{padded, heardOf}
 use Rattle.framing.specs.Feed.{freshDecoder}
@@ -78,7 +78,7 @@ pub record Reading : Type 0 where
 
 abbrev pub reading : Reading → Example
 reading r = record {
-  comes = heard (runs.says decoderHears freshDecoder (r .run)) (runs.endsIn decoderHears freshDecoder (r .run) .state);
+  comes = heard (says decoderHears freshDecoder (r .run)) (endsIn decoderHears freshDecoder (r .run) .state);
   said = heard (replicate (r .quiet) (heardOf silence) ++ r .then) Hunting;
 }
 

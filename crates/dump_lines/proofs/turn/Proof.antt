@@ -10,8 +10,7 @@ use Rattle.line.specs.Events.{Event, silence}
 use Rattle.line.specs.declared.state.State.{State}
 use Rattle.line.specs.declared.state.State.the-variants.{Hunting}
 use Rattle.line.specs.declared.moved.Ended.{Ended}
-use Rattle.line.specs.machine.Feed.{Held, holding, blank, stepped}
-use Rattle.line.specs.machine.Feed.{fresh as freshHeld}
+use Rattle.line.specs.machine.Feed.{Held, holding, blank, stepped, fresh}
 use Rattle.dump_lines.specs.Text.{lineOf}
 use Rattle.line.specs.machine.Feed.{eventOf}
 use Rattle.dump_lines.specs.Lines.{totalled, dump, dumpOf, nextDump, told}
@@ -46,7 +45,7 @@ returns-2 c =
     let a = c .before .before .before .before .before .before .before .before .before .before .before .args in
     let st = c .before .before .before .before .before .before .before .before .step in
     let e : Event = eventOf (st .result .ended) (st .last .1 .0) in
-    let is : stepped (holding (a .state) (a .bytes .now)) (a .byte) ≡ (freshHeld, e) = is-over (a .state) (a .bytes .now) (a .byte) (st .ensures .0) (st .ensures .1) (c .before .before .before .before .before .before .match .keys2) in
+    let is : stepped (holding (a .state) (a .bytes .now)) (a .byte) ≡ (fresh, e) = is-over (a .state) (a .bytes .now) (a .byte) (st .ensures .0) (st .ensures .1) (c .before .before .before .before .before .before .match .keys2) in
     let line = told-is (a .state) (a .bytes .now) (a .totals) (a .byte) is in
     let w = c .before .before .before .write-line in (
       ap (dump Hunting blank) (c .before .before .before .before .before .before .before .totalled .ensures (st .last .1 .0)) ∙ next-is (a .state) (a .bytes .now) (a .totals) (a .byte) is,
