@@ -1,4 +1,4 @@
--- Document 01, 'Commands': command 11. Its response is an identity (the crate identity).
+-- Document 01, 'Commands': command 11. Its response is an identity (Identity.antt).
 use Prim.Native.Nat.{ℕ}
 use mathlib.Core.List.{List}
 use Rattle.refusal.specs.Outcome.{Outcome}

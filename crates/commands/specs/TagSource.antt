@@ -1,5 +1,5 @@
 -- read_unique_id_by_tag.rs written down: its three functions with the Rust's own names, in its order, to be held beside it; the lines that
--- read an identity are in the crate identity. What stops a debug build stops here: an index or a range outside a slice. The Rust's
+-- read an identity are in IdentitySource.antt. What stops a debug build stops here: an index or a range outside a slice. The Rust's
 -- BufferTooSmall is document 01's 2.
 use Prim.Native.Nat.{ℕ}
 use mathlib.Core.Bool.{cond}
