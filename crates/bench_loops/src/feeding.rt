@@ -6,9 +6,9 @@ use framing::Decoder;
 use framing::Heard;
 use framing::State;
 use framing::step;
-use line::ADDRESS_ROOM;
 use line::Ended;
 use line::ROOM;
+use types::HEAD_ROOM;
 
 const FRAME: u64 = 17592186044416;
 
@@ -67,7 +67,7 @@ fn turn(state: State, bytes: &mut [u8; ROOM], byte: u8, sum: u64) -> Turned {
             command,
             length,
         } => {
-            let place = ADDRESS_ROOM + length as usize / 2;
+            let place = HEAD_ROOM + length as usize / 2;
             let middle = bytes[place];
             *bytes = [0u8; ROOM];
             Turned {

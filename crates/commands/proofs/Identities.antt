@@ -1,4 +1,4 @@
--- What reading an identity comes to, case by case, and that its ten fields hold just the twelve bytes.
+-- What reading an identity comes to, case by case, and that its ten fields hold just its bytes.
 use Prim.Native.Nat.{ℕ, _+_, _*_, _/_, _%_, _≤_, _<_}
 use native.Mathlib.Omega.{arith}
 use mathlib.Core.Path.{_≡_, sym, ap, ap₂, _∙_}
@@ -7,18 +7,19 @@ use lib.ListN.{length, getD, take}
 use lib.Dec.{lit<}
 use borrow.Author.Tests.{lt-ltb, le-ltb}
 use Rattle.octets.specs.Digits.{Below, digits, fromDigits}
-use Rattle.octets.proofs.Digits.{digits-from, from-digits-whole}
+use Rattle.octets.proofs.Digits.{below-at, digits-from, from-digits-whole}
+use Rattle.commands.proofs.Places.{taken}
 use Rattle.commands.specs.declared.identity.DeviceIdentity.{DeviceIdentity}
-use Rattle.commands.specs.Identity.{identityAt, identityBytes, IdentityLimited, identified, unidentified, identity}
+use Rattle.commands.specs.Identity.{identitySize, identityAt, identityBytes, IdentityLimited, identified, unidentified, identity}
 
 module _ (bs : List ℕ) where
-  pub identity-short : length bs < 12 → identity bs ≡ unidentified 3 []
+  pub identity-short : length bs < identitySize → identity bs ≡ unidentified 3 []
   unfolding identity
-  identity-short h = rw (lt-ltb (length bs) 12 h)
+  identity-short h = rw (lt-ltb (length bs) identitySize h)
 
-  pub identity-whole : 12 ≤ length bs → identity bs ≡ identified (identityAt bs)
+  pub identity-whole : identitySize ≤ length bs → identity bs ≡ identified (identityAt bs)
   unfolding identity
-  identity-whole h = rw (le-ltb (length bs) 12 h)
+  identity-whole h = rw (le-ltb (length bs) identitySize h)
 
 -- an identity by the three fields that are computed from more than one byte or from part of one
 abbrev pub identityWith : List ℕ → ℕ → ℕ → ℕ → DeviceIdentity
@@ -41,36 +42,20 @@ module _ (bs : List ℕ) {type signalling number : ℕ} (t : type ≡ fromDigits
   identity-fields =
       ap (λ (x : ℕ). identityWith bs x signalling number) t ∙ ap₂ (λ (x y : ℕ). identityWith bs (fromDigits 256 (getD bs 1 0 ∷ getD bs 2 0 ∷ [])) x y) g n
 
-  pub identity-made : 12 ≤ length bs → identified (identityWith bs type signalling number) ≡ identity bs
+  pub identity-made : identitySize ≤ length bs → identified (identityWith bs type signalling number) ≡ identity bs
   identity-made h = ap identified identity-fields ∙ sym (identity-whole bs h)
 
--- twelve bytes or more, one by one
-by-twelve : (P : List ℕ → Type 0) → ((b0 b1 b2 b3 b4 b5 b6 b7 b8 b9 b10 b11 : ℕ) (rest : List ℕ) → P (b0 ∷ b1 ∷ b2 ∷ b3 ∷ b4 ∷ b5 ∷ b6 ∷ b7 ∷ b8 ∷ b9 ∷ b10 ∷ b11 ∷ rest)) → (bs : List ℕ) → 12 ≤ length bs → P bs
-by-twelve P f [] h = absurd (omega arith)
-by-twelve P f (b0 ∷ []) h = absurd (omega arith)
-by-twelve P f (b0 ∷ b1 ∷ []) h = absurd (omega arith)
-by-twelve P f (b0 ∷ b1 ∷ b2 ∷ []) h = absurd (omega arith)
-by-twelve P f (b0 ∷ b1 ∷ b2 ∷ b3 ∷ []) h = absurd (omega arith)
-by-twelve P f (b0 ∷ b1 ∷ b2 ∷ b3 ∷ b4 ∷ []) h = absurd (omega arith)
-by-twelve P f (b0 ∷ b1 ∷ b2 ∷ b3 ∷ b4 ∷ b5 ∷ []) h = absurd (omega arith)
-by-twelve P f (b0 ∷ b1 ∷ b2 ∷ b3 ∷ b4 ∷ b5 ∷ b6 ∷ []) h = absurd (omega arith)
-by-twelve P f (b0 ∷ b1 ∷ b2 ∷ b3 ∷ b4 ∷ b5 ∷ b6 ∷ b7 ∷ []) h = absurd (omega arith)
-by-twelve P f (b0 ∷ b1 ∷ b2 ∷ b3 ∷ b4 ∷ b5 ∷ b6 ∷ b7 ∷ b8 ∷ []) h = absurd (omega arith)
-by-twelve P f (b0 ∷ b1 ∷ b2 ∷ b3 ∷ b4 ∷ b5 ∷ b6 ∷ b7 ∷ b8 ∷ b9 ∷ []) h = absurd (omega arith)
-by-twelve P f (b0 ∷ b1 ∷ b2 ∷ b3 ∷ b4 ∷ b5 ∷ b6 ∷ b7 ∷ b8 ∷ b9 ∷ b10 ∷ []) h = absurd (omega arith)
-by-twelve P f (b0 ∷ b1 ∷ b2 ∷ b3 ∷ b4 ∷ b5 ∷ b6 ∷ b7 ∷ b8 ∷ b9 ∷ b10 ∷ b11 ∷ rest) h = f b0 b1 b2 b3 b4 b5 b6 b7 b8 b9 b10 b11 rest
-
 -- the fields' bytes are the bytes that were read: nothing of them is lost
-pub identity-back : (bs : List ℕ) → Below 256 bs → 12 ≤ length bs → identityBytes (identityAt bs) ≡ take 12 bs
-identity-back bs b h = by-twelve (λ (l : List ℕ). Below 256 l → identityBytes (identityAt l) ≡ take 12 l) each bs h b
-  where
-    each : (b0 b1 b2 b3 b4 b5 b6 b7 b8 b9 b10 b11 : ℕ) (rest : List ℕ) → let l = b0 ∷ b1 ∷ b2 ∷ b3 ∷ b4 ∷ b5 ∷ b6 ∷ b7 ∷ b8 ∷ b9 ∷ b10 ∷ b11 ∷ rest in Below 256 l → identityBytes (identityAt l) ≡ take 12 l
-    each b0 b1 b2 b3 b4 b5 b6 b7 b8 b9 b10 b11 rest k =
-        let type : digits 256 2 (fromDigits 256 (b1 ∷ b2 ∷ [])) ≡ b1 ∷ b2 ∷ [] = digits-from 256 (b1 ∷ b2 ∷ []) (k .1 .0, (k .1 .1 .0, tt)) in
-        let number : digits 256 3 (fromDigits 256 (b9 ∷ b10 ∷ b11 ∷ [])) ≡ b9 ∷ b10 ∷ b11 ∷ [] = digits-from 256 (b9 ∷ b10 ∷ b11 ∷ []) (k .1 .1 .1 .1 .1 .1 .1 .1 .1 .0, (k .1 .1 .1 .1 .1 .1 .1 .1 .1 .1 .0, (k .1 .1 .1 .1 .1 .1 .1 .1 .1 .1 .1 .0, tt))) in
-        let byte : b7 / 8 * 8 + b7 % 8 ≡ b7 = omega arith in
-        ap (λ (x : List ℕ). (b0 ∷ x) ++ (b3 ∷ b4 ∷ b5 ∷ b6 ∷ []) ++ ((b7 / 8 * 8 + b7 % 8) ∷ b8 ∷ digits 256 3 (fromDigits 256 (b9 ∷ b10 ∷ b11 ∷ [])))) type
-        ∙ ap₂ (λ (x : ℕ) (y : List ℕ). b0 ∷ b1 ∷ b2 ∷ b3 ∷ b4 ∷ b5 ∷ b6 ∷ x ∷ b8 ∷ y) byte number
+pub identity-back : (bs : List ℕ) → Below 256 bs → identitySize ≤ length bs → identityBytes (identityAt bs) ≡ take identitySize bs
+identity-back bs b h =
+    let at : ℕ → ℕ = λ i. getD bs i 0 in
+    let byte : (i : ℕ) → at i < 256 = below-at 256 bs b (lit< tt) in
+    let type : digits 256 2 (fromDigits 256 (at 1 ∷ at 2 ∷ [])) ≡ at 1 ∷ at 2 ∷ [] = digits-from 256 (at 1 ∷ at 2 ∷ []) (byte 1, (byte 2, tt)) in
+    let number : digits 256 3 (fromDigits 256 (at 9 ∷ at 10 ∷ at 11 ∷ [])) ≡ at 9 ∷ at 10 ∷ at 11 ∷ [] = digits-from 256 (at 9 ∷ at 10 ∷ at 11 ∷ []) (byte 9, (byte 10, (byte 11, tt))) in
+    let shared : at 7 / 8 * 8 + at 7 % 8 ≡ at 7 = omega arith in
+    ap₂ (λ (x y : List ℕ). (at 0 ∷ x) ++ (at 3 ∷ at 4 ∷ at 5 ∷ at 6 ∷ []) ++ ((at 7 / 8 * 8 + at 7 % 8) ∷ at 8 ∷ y)) type number
+    ∙ ap (λ (x : ℕ). at 0 ∷ at 1 ∷ at 2 ∷ at 3 ∷ at 4 ∷ at 5 ∷ at 6 ∷ x ∷ at 8 ∷ at 9 ∷ at 10 ∷ at 11 ∷ []) shared
+    ∙ sym (taken bs 0 0 identitySize h)
 
 -- the fields come back from their bytes, where each is one that its bits can hold
 pub fields-back : (i : DeviceIdentity) (rest : List ℕ) → IdentityLimited i → identityAt (identityBytes i ++ rest) ≡ i

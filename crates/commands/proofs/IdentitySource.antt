@@ -16,7 +16,7 @@ use Rattle.octets.specs.Put.{put}
 use Rattle.octets.specs.Source.{comes, Run, asU8, shiftRight, shiftLeft}
 use Rattle.octets.proofs.Digits.{below-at}
 use Rattle.octets.proofs.Put.{stores-put}
-use Rattle.commands.specs.Identity.{identified, identity}
+use Rattle.commands.specs.Identity.{identitySize, identified, identity}
 use Rattle.commands.specs.IdentitySource.{sourceDecodedU24, sourceEncodedU24, sourceIdentity}
 use Rattle.commands.proofs.Identities.{identity-short, identityWith, identity-made}
 
@@ -63,18 +63,18 @@ encode-u24-is-source value buf h =
     (ap (λ (b : List ℕ). comes (ends (done []) b)) (stores-put buf 0 (value / 256 / 256 % 256) (value / 256 % 256 ∷ value % 256 ∷ []) h))
 
 pub identity-is-source : (bs : List ℕ) → Below 256 bs → sourceIdentity bs ≡ comes (identity bs)
-identity-is-source bs b = by (ltb (length bs) 12) refl
+identity-is-source bs b = by (ltb (length bs) identitySize) refl
   where
-    by : (short : Bool) → ltb (length bs) 12 ≡ short → sourceIdentity bs ≡ comes (identity bs)
-    by true e = rw e (ap comes (sym (identity-short bs (ltb-true (length bs) 12 e))))
+    by : (short : Bool) → ltb (length bs) identitySize ≡ short → sourceIdentity bs ≡ comes (identity bs)
+    by true e = rw e (ap comes (sym (identity-short bs (ltb-true (length bs) identitySize e))))
     by false e =
-        let h : 12 ≤ length bs = ltb-false (length bs) 12 e in
+        let h : identitySize ≤ length bs = ltb-false (length bs) identitySize e in
         let part = take 3 (drop 9 bs) in
-        let at : (i : ℕ) → i < 12 → ltb i (length bs) ≡ true = λ i k. lt-ltb i (length bs) (omega arith) in
+        let at : (i : ℕ) → i < identitySize → ltb i (length bs) ≡ true = λ i k. lt-ltb i (length bs) (omega arith) in
         let byte : (i : ℕ) → getD bs i 0 < 256 = below-at 256 bs b (lit< tt) in
         let three : length part ≡ 3 = length-take-le 3 (drop 9 bs) (omega (arith, length-drop 9 bs)) in
         let same : (i : ℕ) → i < 3 → getD part i 0 ≡ getD bs (9 + i) 0 = λ i k. getD-take 3 (drop 9 bs) i 0 k ∙ getD-drop 9 bs i 0 in
         let number : fromDigits 256 (getD part 0 0 ∷ getD part 1 0 ∷ getD part 2 0 ∷ []) ≡ fromDigits 256 (getD bs 9 0 ∷ getD bs 10 0 ∷ getD bs 11 0 ∷ []) = rw (same 0 (lit< tt), same 1 (lit< tt), same 2 (lit< tt)) in
-        rw (e, at 7 (lit< tt), at 0 (lit< tt), at 1 (lit< tt), at 2 (lit< tt), at 3 (lit< tt), at 4 (lit< tt), at 5 (lit< tt), at 6 (lit< tt), at 8 (lit< tt), le-leb 12 (length bs) h)
+        rw (e, at 7 (lit< tt), at 0 (lit< tt), at 1 (lit< tt), at 2 (lit< tt), at 3 (lit< tt), at 4 (lit< tt), at 5 (lit< tt), at 6 (lit< tt), at 8 (lit< tt), le-leb identitySize (length bs) h)
         (u24-run part (λ number. comes (identified (identityWith bs (bitOr (shiftLeft 16 (getD bs 1 0) 8) (getD bs 2 0)) (bitAnd (getD bs 7 0) 0x07) number))) (λ i k. rw (same i k) (byte (9 + i))) (omega arith)
         ∙ ap comes (identity-made bs (u16-same (getD bs 1 0) (getD bs 2 0) (byte 1) (byte 2)) (and-mask (getD bs 7 0) 3) number h))

@@ -1,3 +1,4 @@
+pub mod Places
 pub mod Identities
 pub mod IdentitySource
 pub mod Worths

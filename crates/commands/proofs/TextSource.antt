@@ -18,7 +18,7 @@ use Rattle.packed_string.specs.Groups.{groups}
 use Rattle.packed_string.specs.Source.{sourceEncoded, sourceDecoded}
 use Rattle.packed_string.proofs.Calls.{crate-packs}
 use Rattle.packed_string.proofs.Source.{encode-is-source, decode-is-source}
-use Rattle.commands.specs.Modes.{packedText, unpackedText, unpackedIn}
+use Rattle.commands.specs.Modes.{packedText, unpackedText, packedSize, unpackedIn}
 use Rattle.commands.proofs.Texts.{length-packed-text, unpacks-full}
 
 -- a part lent to a call that wrote `bs` to its front
@@ -31,7 +31,7 @@ lent-to dst from to bs call rest h k e =
     (ap (λ (r : Run Outcome). afterCall r (λ p. rest (take from dst ++ p ++ drop to dst))) e
     ∙ ap rest (back ∙ lent-part dst from (to - from) bs (omega arith) (omega arith) refl))
 
-pub source-lent : (text dst : List ℕ) (from to : ℕ) (rest : List ℕ → Run Outcome) → from + groups (length text) * 3 ≡ to → to ≤ length dst
+pub source-lent : (text dst : List ℕ) (from to : ℕ) (rest : List ℕ → Run Outcome) → from + packedSize (length text) ≡ to → to ≤ length dst
     → lentTo dst from to (sourceEncoded text) rest ≡ rest (put dst from (packedText Crate text))
 source-lent text dst from to rest e h =
     let part = midOf from (to - from) dst in

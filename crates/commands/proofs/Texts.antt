@@ -1,4 +1,4 @@
--- Text in either mode, for the crates above: how long it is, where its first bad character stands, and what packing, unpacking and a
+-- Text in either mode, for the commands: how long it is, where its first bad character stands, and what packing, unpacking and a
 -- layout with text in it come to.
 use Prim.Native.Nat.{ℕ, _+_, _*_, _/_, _%_, _≤_, _<_}
 use native.Mathlib.Nat.{min-eq-left}
@@ -22,10 +22,14 @@ use Rattle.packed_string.proofs.BadPlace.{place-within, bad-append-first, bad-a
 use Rattle.packed_string.specs.Standard.{standardPacked}
 use Rattle.packed_string.proofs.StandardCalls.{standard-packs-bad, standard-packs, standard-unpacks}
 use Rattle.packed_string.proofs.Calls.{crate-packs, crate-unpacks}
-use Rattle.commands.specs.Modes.{packedText, unpackedText, packedIn, unpackedIn, badIn, fieldsWritten}
+use Rattle.commands.specs.Modes.{packedText, unpackedText, packedSize, packedIn, unpackedIn, badIn, fieldsWritten}
 
-pub length-packed-text : (mode : Mode) (text : List ℕ) → length (packedText mode text) ≡ groups (length text) * 3
+pub length-packed-text : (mode : Mode) (text : List ℕ) → length (packedText mode text) ≡ packedSize (length text)
 length-packed-text mode text = length-packed mode text (groups (length text))
+
+-- by its count of characters
+pub packed-text-size : (mode : Mode) (text : List ℕ) {n : ℕ} → length text ≡ n → length (packedText mode text) ≡ packedSize n
+packed-text-size mode text e = length-packed-text mode text ∙ ap packedSize e
 
 length-unpacked-text : (mode : Mode) (bytes : List ℕ) → length (unpackedText mode bytes) ≡ length bytes / 3 * 4
 length-unpacked-text mode bytes = length-unpacked mode bytes (length bytes / 3)
@@ -84,7 +88,7 @@ abbrev pub leftBy : Outcome → List ℕ
 leftBy (ends reply buffer) = buffer
 
 -- a part of n bytes at place `at`, lent to a call that packed a text of just that size: it stands in the buffer at that place
-pub lent-text : (mode : Mode) (text l : List ℕ) (at n : ℕ) {r : Reply} {part : List ℕ} → at + n ≤ length l → groups (length text) * 3 ≡ n → length text ≤ badIn mode text
+pub lent-text : (mode : Mode) (text l : List ℕ) (at n : ℕ) {r : Reply} {part : List ℕ} → at + n ≤ length l → packedSize (length text) ≡ n → length text ≤ badIn mode text
     → ends r part ≡ packedIn mode text (midOf at n l) → putMid at n l part ≡ put l at (packedText mode text)
 lent-text mode text l at n h e k f =
     let size : length (packedText mode text) ≡ n = length-packed-text mode text ∙ e in

@@ -1,5 +1,5 @@
 -- Document 01, 'Packed text': text in the mode that a command is called with, and how a layout that holds such text is written.
-use Prim.Native.Nat.{ℕ, _/_}
+use Prim.Native.Nat.{ℕ, _*_, _/_}
 use mathlib.Core.Bool.{cond}
 use mathlib.Core.List.{List, [], _∷_}
 use lib.ListN.{length}
@@ -18,6 +18,17 @@ packedText mode text = packed mode text (groups (length text))
 
 abbrev pub unpackedText : Mode → List ℕ → List ℕ
 unpackedText mode bytes = unpacked mode bytes (length bytes / 3)
+
+-- the bytes that a text of n characters takes
+abbrev pub packedSize : ℕ → ℕ
+packedSize n = groups n * 3
+
+-- a tag's characters, and its bytes
+abbrev pub tagLength : ℕ
+tagLength = 8
+
+abbrev pub tagSize : ℕ
+tagSize = packedSize tagLength
 
 -- what packing and unpacking come to in a mode
 unfoldable pub packedIn : Mode → List ℕ → List ℕ → Outcome

@@ -8,15 +8,23 @@ use Rattle.refusal.specs.Outcome.{Outcome, wrote, refuses}
 use Rattle.octets.specs.Digits.{digits, fromDigits}
 use Rattle.packed_string.specs.declared.text_group.Mode.{Mode}
 use Rattle.packed_string.specs.declared.text_group.Mode.the-variants.{Crate, Standard}
-use Rattle.framing.specs.Payload.{Judgement, carries, withheld, judgementOf}
+use Rattle.framing.specs.Payload.{Judgement, carries, withheld, judgementOf, Reader}
 use Rattle.commands.specs.Worth.{floatOf}
 use Rattle.commands.specs.declared.read_device_vars.DeviceVariable.{DeviceVariable}
 use Rattle.commands.specs.declared.read_device_vars.ReadDeviceVarsResponse.{ReadDeviceVarsResponse}
 
+-- a request asks for so many variables at most, and a response has no more
+abbrev pub mostVariables : ℕ
+mostVariables = 8
+
+-- the bytes of a variable's group
+abbrev pub groupSize : ℕ
+groupSize = 8
+
 -- The request is 0 to 8 codes: more get 1, and after that a buffer with fewer bytes than codes gets 2.
 unfoldable pub codesRequested : List ℕ → List ℕ → Outcome
 codesRequested codes buffer =
-    cond (ltb 8 (length codes)) (refuses 1 [] buffer)
+    cond (ltb mostVariables (length codes)) (refuses 1 [] buffer)
     (cond (ltb (length buffer) (length codes)) (refuses 2 [] buffer)
     (wrote codes buffer))
 
@@ -44,11 +52,11 @@ groupBytes v = (v .«device_var_code» ∷ v .classification ∷ v .unit ∷ dig
 
 -- the whole groups in n bytes, of which no more than eight are read
 abbrev pub groupsOf : ℕ → ℕ
-groupsOf n = min (n / 8) 8
+groupsOf n = min (n / groupSize) mostVariables
 
 abbrev pub firstVariables : List ℕ → ℕ → List DeviceVariable
 firstVariables bs zero = []
-firstVariables bs (suc k) = firstVariables bs k ++ (variableAt bs (k * 8) ∷ [])
+firstVariables bs (suc k) = firstVariables bs k ++ (variableAt bs (k * groupSize) ∷ [])
 
 -- what stands where there is no variable
 abbrev pub noVariable : DeviceVariable
@@ -62,10 +70,10 @@ abbrev pub variablesOf : ReadDeviceVarsResponse → Variables
 variablesOf r = readsVariables (judgementOf (r .verdict)) (r .count) (r .variables)
 
 abbrev pub groupsRead : List ℕ → Variables
-groupsRead bs = let n = groupsOf (length bs) in readsVariables carries n (firstVariables bs n ++ replicate (8 - n) noVariable)
+groupsRead bs = let n = groupsOf (length bs) in readsVariables carries n (firstVariables bs n ++ replicate (mostVariables - n) noVariable)
 
 abbrev pub noVariablesRead : Judgement → Variables
-noVariablesRead judgement = readsVariables judgement 0 (replicate 8 noVariable)
+noVariablesRead judgement = readsVariables judgement 0 (replicate mostVariables noVariable)
 
 abbrev pub variablesRefused : ℕ → List ℕ → Variables
 variablesRefused number values = noVariablesRead (withheld number values)
@@ -75,3 +83,6 @@ variablesRefused number values = noVariablesRead (withheld number values)
 unfoldable pub variablesRead : Mode → List ℕ → Variables
 variablesRead Crate bs = groupsRead bs
 variablesRead Standard bs = cond (ltb (length bs) 1) (variablesRefused 3 []) (groupsRead (drop 1 bs))
+
+abbrev pub command9 : Mode → Reader Variables
+command9 mode = record { number = 9; read = variablesRead mode; refuse = variablesRefused }

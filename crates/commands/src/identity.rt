@@ -5,7 +5,9 @@ use refusal::Refusal;
 ghost use mathlib.Core.Path.{_≡_};
 ghost use Prim.Native.Nat.{_≤_};
 ghost use lib.ListN.{length};
-ghost use Rattle.commands.specs.Identity.{identityAt, identifiedOf, identity};
+ghost use Rattle.commands.specs.Identity.{identitySize, identityAt, identifiedOf, identity};
+
+const IDENTITY_SIZE: usize = 12;
 
 pub struct DeviceIdentity {
     pub expansion_code: u8,
@@ -26,7 +28,7 @@ pub enum IdentityRead {
 }
 
 fn identity_at(data: &[u8]) -> DeviceIdentity
-    requires { ⌜ 12 ≤ length (now «data») ⌝ }
+    requires { ⌜ identitySize ≤ length (now «data») ⌝ }
     ensures { λ r. ⌜ r ≡ identityAt (now («data» .entry)) ⌝ }
 {
     let hw_raw = data[7];
@@ -49,7 +51,7 @@ impl DeviceIdentity {
     pub fn decode(data: &[u8]) -> IdentityRead
         ensures { λ r. ⌜ identifiedOf r ≡ identity (now («data» .entry)) ⌝ }
     {
-        if data.len() < 12 {
+        if data.len() < IDENTITY_SIZE {
             return IdentityRead::Refused(Refusal::BufferTooShort);
         }
         IdentityRead::Identity(identity_at(data))

@@ -18,11 +18,13 @@ ghost use Prim.Native.Nat.{_+_, _≤_};
 ghost use lib.ListN.{length};
 ghost use Rattle.refusal.specs.Outcome.{ends, replyOf};
 ghost use Rattle.commands.specs.Worth.{worthOf, worth};
-ghost use Rattle.framing.specs.Payload.{judgementOf, typed, passedOn, typedReading};
-ghost use Rattle.commands.specs.Variables.{codesRequested, variableAt, noVariable, groupsOf, variablesOf, noVariablesRead, variablesRefused, groupsRead, variablesRead};
+ghost use Rattle.framing.specs.Payload.{judgementOf, typedIn, typedOf};
+ghost use Rattle.commands.specs.Variables.{codesRequested, groupSize, variableAt, noVariable, groupsOf, variablesOf, noVariablesRead, groupsRead, variablesRead, command9};
 
 // A response's groups are bounded by this, and a request's codes.
 pub const MAX_DEVICE_VARS: usize = 8;
+
+const GROUP_SIZE: usize = 8;
 
 // A unit is its raw byte. The value is that of `bits`, which are the line's own: a value that is the NaN
 // has lost which of its patterns the line sent.
@@ -66,7 +68,7 @@ pub fn encode_data(slot_codes: &[u8], buf: &mut [u8]) -> Written
 }
 
 fn variable_at(data: &[u8], base: usize) -> DeviceVariable
-    requires { ⌜ base + 8 ≤ length (now «data») ⌝ }
+    requires { ⌜ base + groupSize ≤ length (now «data») ⌝ }
     ensures { λ r. ⌜ r ≡ variableAt (now («data» .entry)) base ⌝ }
 {
     let bits = decode_u32_be(
@@ -103,8 +105,8 @@ fn no_variable() -> DeviceVariable
 fn whole_groups(length: usize) -> usize
     ensures { λ r. ⌜ r ≡ groupsOf length ⌝ }
 {
-    if length / 8 < MAX_DEVICE_VARS {
-        length / 8
+    if length / GROUP_SIZE < MAX_DEVICE_VARS {
+        length / GROUP_SIZE
     } else {
         MAX_DEVICE_VARS
     }
@@ -130,7 +132,7 @@ fn decode_groups(data: &[u8]) -> ReadDeviceVarsResponse
     let n_vars = whole_groups(data.len());
     let mut i = 0;
     while i < n_vars {
-        variables[i] = variable_at(data, i * 8);
+        variables[i] = variable_at(data, i * GROUP_SIZE);
         i += 1;
     }
     ReadDeviceVarsResponse {
@@ -162,7 +164,7 @@ pub fn read_frame(
     command: u8,
     data: &[u8],
 ) -> ReadDeviceVarsResponse
-    ensures { λ r. ⌜ variablesOf r ≡ passedOn (variablesRead mode) variablesRefused (typed 9 «frame_type» command (now («data» .entry))) (now («data» .entry)) ⌝ }
+    ensures { λ r. ⌜ variablesOf r ≡ typedIn (command9 mode) «frame_type» command (now («data» .entry)) ⌝ }
 {
     let verdict = typed_verdict(READ_DEVICE_VARS_WITH_STATUS, frame_type, command, data);
     let PayloadVerdict::Carried = verdict else {
@@ -173,7 +175,7 @@ pub fn read_frame(
 
 // The same of a frame that a decoder found: its data are the first `length` bytes of its array.
 pub fn read_response(mode: Mode, frame: Frame) -> ReadDeviceVarsResponse
-    ensures { λ r. ⌜ variablesOf r ≡ typedReading (variablesRead mode) variablesRefused 9 frame ⌝ }
+    ensures { λ r. ⌜ variablesOf r ≡ typedOf (command9 mode) frame ⌝ }
 {
     let frame_type = frame.frame_type;
     let data = frame.data;

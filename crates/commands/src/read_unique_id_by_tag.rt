@@ -2,6 +2,8 @@
 // which is an identity, and the response straight from a frame.
 use crate::identity::DeviceIdentity;
 use crate::identity::IdentityRead;
+use crate::text_in_mode::TAG_LENGTH;
+use crate::text_in_mode::TAG_SIZE;
 use crate::text_in_mode::decode_in;
 use crate::text_in_mode::encode_in;
 use framing::Frame;
@@ -15,19 +17,19 @@ use types::FrameType;
 use types::consts::commands::READ_UNIQUE_ID_BY_TAG;
 ghost use mathlib.Core.Path.{_≡_};
 ghost use Rattle.refusal.specs.Outcome.{ends, replyOf};
-ghost use Rattle.framing.specs.Payload.{typed, passedOn, typedReading};
-ghost use Rattle.commands.specs.Identity.{identifiedOf, identity, unidentified};
+ghost use Rattle.framing.specs.Payload.{typedIn, typedOf};
+ghost use Rattle.commands.specs.Identity.{identifiedOf, identity};
 ghost use Rattle.commands.specs.Modes.{unpackedText};
-ghost use Rattle.commands.specs.Tag.{tagRequested};
+ghost use Rattle.commands.specs.Tag.{tagRequested, command11};
 
 // Writes the tag, packed.
-pub fn encode_data(mode: Mode, tag: [u8; 8], buf: &mut [u8]) -> Written
+pub fn encode_data(mode: Mode, tag: [u8; TAG_LENGTH], buf: &mut [u8]) -> Written
     ensures { λ r. ⌜ ends (replyOf r) (now (buf .exit)) ≡ tagRequested mode tag (now (buf .entry)) ⌝ }
 {
-    if buf.len() < 6 {
+    if buf.len() < TAG_SIZE {
         return Written::Refused(Refusal::BufferTooSmall);
     }
-    encode_in(mode, &tag, &mut buf[..6])
+    encode_in(mode, &tag, &mut buf[..TAG_SIZE])
 }
 
 pub fn decode_data(data: &[u8]) -> IdentityRead
@@ -36,18 +38,18 @@ pub fn decode_data(data: &[u8]) -> IdentityRead
     DeviceIdentity::decode(data)
 }
 
-// The eight characters of a packed tag.
-pub fn decode_tag(mode: Mode, packed: [u8; 6]) -> [u8; 8]
+// The characters of a packed tag.
+pub fn decode_tag(mode: Mode, packed: [u8; TAG_SIZE]) -> [u8; TAG_LENGTH]
     ensures { λ r. ⌜ r ≡ unpackedText mode packed ⌝ }
 {
-    let mut tag = [0x20u8; 8];
+    let mut tag = [0x20u8; TAG_LENGTH];
     decode_in(mode, &packed, &mut tag);
     tag
 }
 
 // The identity that a frame carries, or why it carries none.
 pub fn read_frame(frame_type: FrameType, command: u8, data: &[u8]) -> IdentityRead
-    ensures { λ r. ⌜ identifiedOf r ≡ passedOn identity unidentified (typed 11 «frame_type» command (now («data» .entry))) (now («data» .entry)) ⌝ }
+    ensures { λ r. ⌜ identifiedOf r ≡ typedIn command11 «frame_type» command (now («data» .entry)) ⌝ }
 {
     let verdict = typed_verdict(READ_UNIQUE_ID_BY_TAG, frame_type, command, data);
     let PayloadVerdict::Refused(refusal) = verdict else {
@@ -58,7 +60,7 @@ pub fn read_frame(frame_type: FrameType, command: u8, data: &[u8]) -> IdentityRe
 
 // The same of a frame that a decoder found: its data are the first `length` bytes of its array.
 pub fn read_response(frame: Frame) -> IdentityRead
-    ensures { λ r. ⌜ identifiedOf r ≡ typedReading identity unidentified 11 frame ⌝ }
+    ensures { λ r. ⌜ identifiedOf r ≡ typedOf command11 frame ⌝ }
 {
     let frame_type = frame.frame_type;
     let data = frame.data;

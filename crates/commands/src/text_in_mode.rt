@@ -10,6 +10,11 @@ ghost use mathlib.Core.Path.{_≡_};
 ghost use Rattle.refusal.specs.Outcome.{ends, replyOf};
 ghost use Rattle.commands.specs.Modes.{packedIn, unpackedIn, badIn};
 
+// The characters of a tag, and the bytes that they are packed in: three for four.
+pub(crate) const TAG_LENGTH: usize = 8;
+
+pub(crate) const TAG_SIZE: usize = TAG_LENGTH / 4 * 3;
+
 pub(crate) fn encode_in(mode: Mode, src: &[u8], dst: &mut [u8]) -> Written
     ensures { λ r. ⌜ ends (replyOf r) (now (dst .exit)) ≡ packedIn mode (now (src .entry)) (now (dst .entry)) ⌝ }
 {

@@ -1,22 +1,22 @@
 -- No line is longer than the room that is asked for one.
-use Prim.Native.Nat.{ℕ, _^_, _≤_, _<_}
+use Prim.Native.Nat.{ℕ, _*_, _^_, _≤_, _<_}
 use native.Mathlib.Omega.{arith}
-use mathlib.Core.Bool.{Bool}
+use mathlib.Core.Bool.{Bool, true}
 use mathlib.Core.List.{List, [], _∷_}
 use lib.ListN.{length, length-append}
 use Rattle.refusal.specs.declared.Refusal.the-variants.{InvalidDelimiter, ChecksumMismatch}
 use Rattle.octets.proofs.Decimals.{length-decimal, length-decimal-byte, length-hex}
-use Rattle.types.specs.Address.{readAddress, addressBytes, isLong}
+use Rattle.types.specs.Address.{addressLength, readAddress, addressBytes, isLong}
 use Rattle.types.proofs.Addresses.{address-length-le, length-address}
-use Rattle.line.specs.Layout.{Wire, Fits}
+use Rattle.line.specs.Layout.{Wire, addressOf, mostData, Fits}
 use Rattle.dump_lines.specs.Text.{addressText, dataText, frameLine, refusalLine, endLine, lineMax}
 
-address-longest : (long : Bool) (bs : List ℕ) → length (addressText long bs) ≤ 10
+address-longest : (long : Bool) (bs : List ℕ) → length (addressText long bs) ≤ 2 * addressLength true
 address-longest long bs =
     let a = readAddress long bs in
     omega (arith, length-hex (addressBytes a), length-address a, address-length-le (isLong a))
 
-data-longest : (bs : List ℕ) → length bs ≤ 255 → length (dataText bs) ≤ 510
+data-longest : (bs : List ℕ) → length bs ≤ mostData → length (dataText bs) ≤ 2 * mostData
 data-longest [] h = omega arith
 data-longest (b ∷ bs) h = omega (arith, length-hex (b ∷ bs))
 
@@ -24,7 +24,7 @@ module _ (place : ℕ) (small : place < 2 ^ 64) where
   pub frame-longest : (w : Wire) → Fits w → w .command < 256 → length (frameLine place w) ≤ lineMax
   unfolding frameLine
   frame-longest w f k =
-      simp length-append (omega (arith, length-decimal place small, address-longest (w .long) (w .address), length-decimal-byte (w .command) k, data-longest (w .payload) (f .countFits)))
+      simp length-append (omega (arith, length-decimal place small, address-longest (w .opening .«is_long») (addressOf w), length-decimal-byte (w .command) k, data-longest (w .payload) (f .countFits)))
 
   pub delimiter-longest : (b : ℕ) → length (refusalLine place (InvalidDelimiter b)) ≤ lineMax
   unfolding refusalLine

@@ -9,6 +9,7 @@ use Rattle.line.specs.Pieces.{Piece, noise, shortRun, badDelimiter, frame, badC
 use Rattle.line.specs.Events.{Event, silence, found, rejected, verdict, silent, saidBy, dictated, gather, framesIn, refusalsIn}
 use Rattle.line.specs.Runs.{says}
 use Rattle.line.specs.machine.Feed.{stepped}
+use Rattle.line.proofs.Machines.{length-says}
 use Rattle.line.proofs.machine.Demand.{stepped-demand}
 use Rattle.dump_lines.specs.Text.{lineOf}
 use Rattle.dump_lines.specs.Lines.{largest, more, totalsOf, totalled, heldByDump, freshDump, nextDump, told, after, printed, taking, lastLine}
@@ -96,10 +97,6 @@ tally-counts b f r (rejected x ∷ es) hf hr h =
     ∙ tally-counts (b + 1) f (r + 1) es (omega arith) (omega arith) (omega arith)
     ∙ same-totals (omega arith) refl (omega arith)
 
-length-says : (d : Dump) (run : List ℕ) → length (says stepped (heldByDump d) run) ≡ length run
-length-says d [] = refl
-length-says d (b ∷ bs) = omega (arith, length-says (nextDump d b) bs)
-
 frames-counted : (ps : List Piece) → length (gather framesIn (map verdict ps)) ≡ framePieces ps
 frames-counted [] = refl
 frames-counted (noise b ∷ ps) = frames-counted ps
@@ -121,7 +118,7 @@ pub printed-cut : (run : List ℕ) → Bytes run → length run < 2 ^ 64 → Pri
 printed-cut run k h =
     let d = stepped-demand run k in
     let es : List Event = says stepped (heldByDump freshDump) run in
-    let size : length es ≡ length run = length-says freshDump run in
+    let size : length es ≡ length run = length-says stepped (heldByDump freshDump) run in
     let parts : length run ≡ length (joined (d .pieces)) + length (d .rest) = ap length (d .cut .whole) ∙ length-append (joined (d .pieces)) (d .rest) in
     let lines : printed freshDump run ≡ pieceLines 0 (d .pieces) = printed-events freshDump run ∙ ap (linesOf 0) (d .events) ∙ lines-dictated 0 (d .pieces) (d .rest) (omega arith) in
     let counts : after freshDump run .totals ≡ totalsOf (length run) (framePieces (d .pieces)) (refusedPieces (d .pieces)) =

@@ -1,6 +1,6 @@
 -- Document 01, 'Examples': the lines of the dump, as lists of ASCII codes.
-use Prim.Native.Nat.{ℕ}
-use mathlib.Core.Bool.{Bool, cond}
+use Prim.Native.Nat.{ℕ, _+_, _*_}
+use mathlib.Core.Bool.{Bool, true, cond}
 use mathlib.Core.List.{List, [], _∷_, _++_, map}
 use lib.Dec.{eqb}
 use Rattle.refusal.specs.declared.Refusal.{Refusal}
@@ -8,8 +8,8 @@ use Rattle.refusal.specs.Table.{numberOf, valuesOf}
 use Rattle.octets.specs.Figures.{decimal, hexByte, hex}
 use Rattle.types.specs.declared.delimiter.FrameType.{FrameType}
 use Rattle.types.specs.declared.delimiter.FrameType.the-variants.{Request, Response, Burst}
-use Rattle.types.specs.Address.{readAddress, addressBytes}
-use Rattle.line.specs.Layout.{Wire}
+use Rattle.types.specs.Address.{addressLength, readAddress, addressBytes}
+use Rattle.line.specs.Layout.{Wire, addressOf, mostData}
 use Rattle.line.specs.Events.{Event, silence, found, rejected}
 
 -- a line is words with a space between two, and a newline at its end
@@ -43,8 +43,8 @@ unfoldable pub frameLine : ℕ → Wire → List ℕ
 frameLine place w =
     line ((0x46 ∷ [])
     ∷ decimal place
-    ∷ (letter (w .frameType) ∷ [])
-    ∷ addressText (w .long) (w .address)
+    ∷ (letter (w .opening .«frame_type») ∷ [])
+    ∷ addressText (w .opening .«is_long») (addressOf w)
     ∷ decimal (w .command)
     ∷ dataText (w .payload)
     ∷ [])
@@ -64,6 +64,7 @@ lineOf place (rejected r) = refusalLine place r
 unfoldable pub endLine : ℕ → ℕ → ℕ → List ℕ
 endLine bytes frames refusals = line ((0x65 ∷ 0x6E ∷ 0x64 ∷ []) ∷ decimal bytes ∷ decimal frames ∷ decimal refusals ∷ [])
 
--- no line is longer: a frame with a place of 20 digits, a long address, a command of 3 digits and 255 bytes of data
+-- no line is longer than that of a frame with a place of 20 digits, a long address, a command of 3 digits and as many data as there can
+-- be: F, the place, the type, address, command and data, each with a space or the newline behind it
 abbrev pub lineMax : ℕ
-lineMax = 551
+lineMax = 2 + 21 + 2 + (2 * addressLength true + 1) + 4 + (2 * mostData + 1)

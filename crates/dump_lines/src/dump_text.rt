@@ -1,7 +1,6 @@
 // The dump's text, a line at a time: document 01, 'Examples'. A line is words; behind each stands a
 // mark, a space or at the line's end a newline. Each writer here gives back the place behind what it
 // wrote.
-use line::ADDRESS_ROOM;
 use line::Ended;
 use line::Head;
 use line::ROOM;
@@ -13,13 +12,18 @@ use refusal::Written;
 use types::Address;
 use types::AddressRead;
 use types::FrameType;
+use types::HEAD_ROOM;
+use types::LONG_ADDRESS_LENGTH;
+use types::consts::MAX_DATA_LENGTH;
 ghost use mathlib.Core.Path.{_≡_};
+ghost use mathlib.Core.Bool.{true};
 ghost use mathlib.Core.List.{[], _∷_, _++_};
 ghost use Prim.Native.Nat.{_+_, _*_, _≤_, _<_};
 ghost use lib.ListN.{length, take, drop};
 ghost use Rattle.refusal.specs.Outcome.{ends, replyOf};
-ghost use Rattle.types.specs.Address.{addressLength};
-ghost use Rattle.line.specs.machine.Room.{addressRoom, decoderRoom};
+ghost use Rattle.types.specs.Address.{addressLength, headRoom};
+ghost use Rattle.line.specs.Layout.{mostData};
+ghost use Rattle.line.specs.machine.Room.{decoderRoom};
 ghost use Rattle.line.specs.machine.Frames.{wireAt};
 ghost use Rattle.line.specs.machine.Feed.{eventOf};
 ghost use Rattle.octets.specs.Figures.{decimal as decimalText, hex as hexText};
@@ -29,9 +33,14 @@ ghost use Rattle.dump_lines.specs.Text.{letter as typeLetter};
 ghost use Rattle.dump_lines.specs.Writing.{endWritten};
 ghost use Rattle.dump_lines.specs.Code.{Writes};
 
-// No line is longer: a frame with a place of 20 digits, a long address, a command of 3 digits and 255
-// bytes of data.
-pub const LINE_MAX: usize = 551;
+// No line is longer: a frame with a place of 20 digits, a long address, a command of 3 digits and as many data
+// as there can be, behind each word a space or the newline.
+pub const LINE_MAX: usize = 2
+    + 21
+    + 2
+    + (2 * LONG_ADDRESS_LENGTH + 1)
+    + 4
+    + (2 * MAX_DATA_LENGTH + 1);
 
 const SPACE: u8 = b' ';
 
@@ -89,27 +98,27 @@ fn write_hex(bytes: &[u8], mark: u8, out: &mut [u8], at: usize) -> usize
 
 // As our writer writes it, so that the bits that say nothing are zero.
 fn write_address(bytes: &[u8], long: bool, mark: u8, out: &mut [u8], at: usize) -> usize
-    requires { ⌜ (length (now bytes) ≡ decoderRoom) × (at + 10 < length (now out)) ⌝ }
+    requires { ⌜ (length (now bytes) ≡ decoderRoom) × (at + 2 * addressLength true < length (now out)) ⌝ }
     ensures { λ r. ⌜ Writes (now (out .entry)) at (addressText long (take (addressLength long) (now (bytes .entry))) ++ (mark ∷ [])) r (now (out .exit)) ⌝ }
-    ensures { λ r. ⌜ r ≤ at + 11 ⌝ }
+    ensures { λ r. ⌜ r ≤ at + 2 * addressLength true + 1 ⌝ }
 {
     let AddressRead::Read { address, used } = Address::decode(bytes, long) else {
         return at;
     };
-    let mut written = [0u8; ADDRESS_ROOM];
+    let mut written = [0u8; LONG_ADDRESS_LENGTH];
     address.encode(&mut written);
     write_hex(&written[0..used], mark, out, at)
 }
 
 fn write_data(bytes: &[u8], n: u8, mark: u8, out: &mut [u8], at: usize) -> usize
-    requires { ⌜ (length (now bytes) ≡ decoderRoom) × (at + 510 < length (now out)) ⌝ }
-    ensures { λ r. ⌜ Writes (now (out .entry)) at (dataText (take n (drop addressRoom (now (bytes .entry)))) ++ (mark ∷ [])) r (now (out .exit)) ⌝ }
+    requires { ⌜ (length (now bytes) ≡ decoderRoom) × (at + 2 * mostData < length (now out)) ⌝ }
+    ensures { λ r. ⌜ Writes (now (out .entry)) at (dataText (take n (drop headRoom (now (bytes .entry)))) ++ (mark ∷ [])) r (now (out .exit)) ⌝ }
 {
     if n == 0 {
         return write_letter(b'-', mark, out, at);
     }
-    let to = ADDRESS_ROOM + n as usize;
-    write_hex(&bytes[ADDRESS_ROOM..to], mark, out, at)
+    let to = HEAD_ROOM + n as usize;
+    write_hex(&bytes[HEAD_ROOM..to], mark, out, at)
 }
 
 fn letter(frame_type: FrameType) -> u8
@@ -132,7 +141,7 @@ fn write_start(letter: u8, place: u64, out: &mut [u8], at: usize) -> usize
     write_number(place, SPACE, out, after_letter)
 }
 
-// The frame that the 260 bytes hold at its check byte.
+// The frame that the bytes hold at its check byte.
 fn write_frame(
     place: u64,
     head: Head,
@@ -148,7 +157,7 @@ fn write_frame(
     let frame_type = head.frame_type;
     let after_start = write_start(b'F', place, out, at);
     let after_type = write_letter(letter(frame_type), SPACE, out, after_start);
-    let after_address = write_address(bytes, head.long, SPACE, out, after_type);
+    let after_address = write_address(bytes, head.is_long, SPACE, out, after_type);
     let after_command = write_number(command as u64, SPACE, out, after_address);
     write_data(bytes, n, NEWLINE, out, after_command)
 }

@@ -38,7 +38,7 @@ feeding-demand run k = demand feedingDecoder (λ s. decoderOf (real s)) (λ s b 
 pub answered : (run : List ℕ) → Bytes run → DecoderAnswered run
 answered run k = renamed-answered hears decoderHears decoderOf to-decoder fresh run (any.answered run k)
 
--- what is heard, byte by byte, is what the scanner gives: a way to compute it without the 260 bytes
+-- what is heard, byte by byte, is what the scanner gives: a way to compute it without a decoder's bytes
 pub heard-scanned : (run : List ℕ) → Bytes run → says decoderHears freshDecoder run ≡ map heardOf (map told (says scan hunt run))
 heard-scanned run k = renamed-says hears decoderHears decoderOf to-decoder fresh run ∙ any.heard-scanned run k
 

@@ -1,29 +1,24 @@
 -- When a frame's data carry a payload, which part is then handed back, and what a typed reading of a frame is: callers cite these and not
 -- the text of the definitions.
 use Prim.Native.Nat.{ℕ, _-_, _≤_}
-use native.Mathlib.Nat.{sub-zero}
 use native.Mathlib.Omega.{arith}
-use mathlib.Core.Path.{_≡_, refl, sym, ap, _∙_}
+use mathlib.Core.Path.{_≡_, refl, ap}
 use mathlib.Core.Logic.{_≢_, _↔_}
 use mathlib.Core.Bool.{Bool, true, false, cond, not}
 use mathlib.Core.List.{List, []}
-use lib.ListN.{length, getD, take, drop, replicate}
+use lib.ListN.{length, getD, drop, replicate}
 use lib.Seq.{take-append-seam}
 use lib.Dec.{eqb}
 use borrow.Author.Tests.{ltb-false, eqb-true, not-false, le-ltb, eq-eqb, ne-eqb}
-use Rattle.refusal.specs.declared.Refusal.{Refusal}
-use Rattle.refusal.specs.Table.{numberOf, valuesOf}
 use Rattle.octets.specs.Part.{Part, from, emptyAt}
 use Rattle.octets.specs.Bit.{bit}
 use Rattle.types.specs.Delimiter.{typeNumber}
 use Rattle.types.specs.declared.delimiter.FrameType.{FrameType}
 use Rattle.types.specs.declared.delimiter.FrameType.the-variants.{Request, Response, Burst}
 use Rattle.line.specs.Layout.{Wire}
+use Rattle.line.specs.machine.Room.{dataRoom}
 use Rattle.line.specs.machine.Frames.{frameOf}
-use Rattle.line.specs.declared.frame.Frame.{Frame}
-use Rattle.framing.specs.declared.payload.PayloadVerdict.{PayloadVerdict}
-use Rattle.framing.specs.declared.payload.PayloadVerdict.the-variants.{Carried, Refused}
-use Rattle.framing.specs.Payload.{Judgement, carries, withheld, judgementOf, judged, payloadJudgement, payloadPart, typed, passedOn, dataOf, typedReading}
+use Rattle.framing.specs.Payload.{Judgement, carries, withheld, judged, payloadJudgement, payloadPart, typed, dataOf}
 
 -- a check that does not refuse
 passed : (fails : Bool) (n : ℕ) (vs : List ℕ) (rest : Judgement) → cond fails (withheld n vs) rest ≡ carries → (fails ≡ false) × (rest ≡ carries)
@@ -76,34 +71,6 @@ module _ (wanted : ℕ) (t : FrameType) (command : ℕ) (ds : List ℕ) where
 pub typed-part : (wanted : ℕ) (t : FrameType) (command : ℕ) (p : Part) → typed wanted t command (p .bytes) ≡ carries → payloadPart t p .bytes ≡ drop 2 (p .bytes)
 typed-part wanted t command p e = ap (λ (q : Part). q .bytes) (part-carried t p (typed-carries wanted t command (p .bytes) e))
 
--- the two ways out of a typed reader, whatever it reads and however it refuses: the payload is read, or the verdict's refusal passed on
-module _ {A : Type 0} (read : List ℕ → A) (refuse : ℕ → List ℕ → A) (wanted : ℕ) (t : FrameType) (command : ℕ) (p : Part) {v : PayloadVerdict} where
-  pub passed-carried : {q : Part} → v ≡ Carried → judgementOf v ≡ typed wanted t command (p .bytes) → q ≡ payloadPart t p → read (q .bytes) ≡ passedOn read refuse (typed wanted t command (p .bytes)) (p .bytes)
-  passed-carried told said part =
-      let e : typed wanted t command (p .bytes) ≡ carries = sym said ∙ ap judgementOf told in
-      ap read (ap (λ (q : Part). q .bytes) part ∙ typed-part wanted t command p e) ∙ ap (λ (j : Judgement). passedOn read refuse j (p .bytes)) (sym e)
-
-  pub passed-refused : {r : Refusal} → v ≡ Refused r → judgementOf v ≡ typed wanted t command (p .bytes) → refuse (numberOf r) (valuesOf r) ≡ passedOn read refuse (typed wanted t command (p .bytes)) (p .bytes)
-  passed-refused told said = ap (λ (j : Judgement). passedOn read refuse j (p .bytes)) (sym (ap judgementOf told) ∙ said)
-
-  -- the same where the answer is made of the verdict itself
-  pub passed-verdict : {r : Refusal} (nothing : Judgement → A) → nothing (withheld (numberOf r) (valuesOf r)) ≡ refuse (numberOf r) (valuesOf r) → v ≡ Refused r → judgementOf v ≡ typed wanted t command (p .bytes)
-      → nothing (judgementOf v) ≡ passedOn read refuse (typed wanted t command (p .bytes)) (p .bytes)
-  passed-verdict nothing same told said = ap (λ (u : PayloadVerdict). nothing (judgementOf u)) told ∙ same ∙ passed-refused told said
-
 -- a frame as it was heard has the payload of the line, without a byte of what fills its array
 pub frame-data : (w : Wire) → dataOf (frameOf w) ≡ w .payload
-frame-data w = take-append-seam (w .payload) (replicate (255 - length (w .payload)) 0)
-
-module _ {A : Type 0} (read : List ℕ → A) (refuse : ℕ → List ℕ → A) (wanted : ℕ) where
-  -- what was read of a frame's own data, as they are lent, is a typed reading of the frame
-  pub reads-frame : (f : Frame) {x : A} → let ds = take (f .length - 0) (f .«data») in x ≡ passedOn read refuse (typed wanted (f .«frame_type») (f .command) ds) ds → x ≡ typedReading read refuse wanted f
-  unfolding typedReading
-  reads-frame f e =
-      let part : List ℕ → A = λ ds. passedOn read refuse (typed wanted (f .«frame_type») (f .command) ds) ds in
-      e ∙ ap (λ (n : ℕ). part (take n (f .«data»))) (sub-zero (f .length))
-
-  -- of a frame as it was heard: the reading of what stood on the line
-  pub reads-wire : (w : Wire) → typedReading read refuse wanted (frameOf w) ≡ passedOn read refuse (typed wanted (w .frameType) (w .command) (w .payload)) (w .payload)
-  unfolding typedReading
-  reads-wire w = ap (λ (ds : List ℕ). passedOn read refuse (typed wanted (w .frameType) (w .command) ds) ds) (frame-data w)
+frame-data w = take-append-seam (w .payload) (replicate (dataRoom - length (w .payload)) 0)

@@ -2,19 +2,21 @@
 use Prim.Native.Nat.{ℕ}
 use mathlib.Core.Path.{_≡_, refl, sym, ap, ap₂, _∙_}
 use mathlib.Core.List.{List, [], _∷_, _++_, map, append-assoc, append-nil, map-append}
-use lib.ListN.{length, drop, replicate}
-use Rattle.line.specs.Layout.{Wire, preambles, body, checkOf}
+use lib.ListN.{length, replicate}
+use Rattle.line.specs.Layout.{Wire, checkOf}
 use Rattle.line.specs.Pieces.{Piece, frame, Holds, front, bytesOf, Bytes, joined, AllHold, Cut, nothing}
 use Rattle.line.specs.Events.{Event, silence, found, verdict, silent, saidBy, dictated}
-use Rattle.line.specs.Runs.{says, endsIn}
+use Rattle.line.specs.Runs.{says}
+use Rattle.line.proofs.Machines.{says-append}
 use Rattle.line.specs.machine.Frames.{heardOf}
 use Rattle.line.specs.declared.frame.Heard.{Heard}
 use Rattle.framing.specs.Feed.{freshDecoder}
 use Rattle.framing.specs.Demand.{decoderHears}
-use Rattle.framing.specs.Payload.{Judgement, carries, typed, passedOn, typedReading}
-use Rattle.framing.specs.Responses.{heardAtCheck, Responds, HeardRead}
+use Rattle.framing.specs.Payload.{Reader, typedIn, typedOf}
+use Rattle.framing.specs.Responses.{heardAtCheck, HeardRead}
 use Rattle.framing.proofs.Demand.{answered}
-use Rattle.framing.proofs.Payloads.{carries-exactly, typed-same, reads-wire}
+use Rattle.framing.proofs.Payloads.{carries-exactly}
+use Rattle.framing.proofs.Typed.{typed-carried, reads-wire}
 
 -- pieces joined
 joined-append : (ps qs : List Piece) → joined (ps ++ qs) ≡ joined ps ++ joined qs
@@ -36,11 +38,6 @@ quiet [] = refl
 quiet (b ∷ bs) = ap (λ (hs : List Heard). heardOf silence ∷ hs) (quiet bs)
 
 -- what is said at the byte behind a run comes last
-module _ {S O : Type 0} (step : S → ℕ → S × O) where
-  says-behind : (s : S) (bs : List ℕ) (b : ℕ) → says step s (bs ++ (b ∷ [])) ≡ says step s bs ++ ((step (endsIn step s bs) b) .1 ∷ [])
-  says-behind s [] b = refl
-  says-behind s (c ∷ bs) b = ap (λ (os : List O). (step s c) .1 ∷ os) (says-behind ((step s c) .0) bs b)
-
 abbrev lastOf : Heard → List Heard → Heard
 lastOf h [] = h
 lastOf h (k ∷ ks) = lastOf k ks
@@ -78,7 +75,7 @@ module _ (ps : List Piece) (n : ℕ) (w : Wire) (hold : AllHold ps) (holds : Hol
   heard-at-check =
       let fed : List ℕ = joined ps ++ front piece in
       let said : says decoderHears freshDecoder fed ++ (heardAtCheck ps n w ∷ []) ≡ before ++ (heardOf (found w) ∷ []) =
-      sym (says-behind decoderHears freshDecoder fed (checkOf w))
+      sym (says-append decoderHears freshDecoder fed (checkOf w ∷ []))
       ∙ ap (says decoderHears freshDecoder) (append-assoc (joined ps) (front piece) (checkOf w ∷ []))
       ∙ frame-heard
       ∙ sym (append-assoc (map heardOf (saidBy ps)) (replicate (length (front piece)) (heardOf silence)) (heardOf (found w) ∷ [])) in
@@ -87,15 +84,13 @@ module _ (ps : List Piece) (n : ℕ) (w : Wire) (hold : AllHold ps) (holds : Hol
       ∙ last-behind (heardOf silence) before (heardOf (found w))
 
   -- whatever a command reads, and however it refuses
-  pub heard-read : {A : Type 0} (read : List ℕ → A) (refuse : ℕ → List ℕ → A) (wanted : ℕ) → HeardRead read refuse wanted ps n w
-  heard-read {A} read refuse wanted =
+  pub heard-read : {A : Type 0} (k : Reader A) → HeardRead k ps n w
+  heard-read k =
+      let t = w .opening .«frame_type» in
       let ds = w .payload in
-      let here : typedReading read refuse wanted (heardAtCheck ps n w .frame) ≡ passedOn read refuse (typed wanted (w .frameType) (w .command) ds) ds =
-      ap (λ (h : Heard). typedReading read refuse wanted (h .frame)) heard-at-check ∙ reads-wire read refuse wanted w in
-      let carried : Responds wanted w → typed wanted (w .frameType) (w .command) ds ≡ carries =
-      λ r. typed-same wanted (w .frameType) (w .command) ds (r .asked) ∙ carries-exactly (w .frameType) ds .1 (r .sent, r .statuses, r .clean) in
+      let here : typedOf k (heardAtCheck ps n w .frame) ≡ typedIn k t (w .command) ds = ap (λ (h : Heard). typedOf k (h .frame)) heard-at-check ∙ reads-wire k w in
       record {
         answer = ap (λ (h : Heard). h .answer) heard-at-check;
         reading = here;
-        response = λ r. here ∙ ap (λ (j : Judgement). passedOn read refuse j ds) (carried r);
+        response = λ r. here ∙ typed-carried k t (w .command) ds (r .asked) (carries-exactly t ds .1 (r .sent, r .statuses, r .clean));
       }

@@ -8,7 +8,7 @@ use mathlib.Core.Bool.{Bool, true, false, cond}
 use mathlib.Core.List.{List, [], _∷_, _++_, append-assoc, append-nil}
 use lib.Bits.{bitAnd, bitOr, bitXor, and-mask, or-block, or-shifted-r}
 use lib.Dec.{ltb, lit<}
-use lib.ListN.{length, take, drop, set, length-append, length-drop, length-set, length-replicate}
+use lib.ListN.{length, take, drop, set, length-append, length-drop, length-set}
 use lib.Seq.{append-snoc, getD-at}
 use borrow.Author.Tests.{ltb-true, ltb-false, lt-ltb, le-leb}
 use Rattle.refusal.specs.Outcome.{Outcome, ends, done, wrote, refuses}
@@ -27,8 +27,10 @@ use Rattle.types.specs.Delimiter.{delimiter}
 use Rattle.types.specs.Address.{addressLength, isLong, firstByte, addressBytes, addressWritten}
 use Rattle.types.proofs.Addresses.{address-fits, length-address}
 use Rattle.line.specs.Layout.{preambles, checkOf}
-use Rattle.line.specs.Encode.{wireOf, layout, total, encoded}
+use Rattle.line.specs.Encode.{openingOf, wireOf, layout, total, encoded}
+use Rattle.line.specs.machine.Room.{dataRoom}
 use Rattle.framing.specs.Source.{marked, sourceAddressInto, sourceAddressWritten, computeDelimiter, preambleLoop, lentFrom, sumLoop, dataLoop, sourceTail, sourceBody, sourceFrame}
+use Rattle.line.proofs.Layouts.{length-preambles}
 
 -- Stores in a row are the data loop, wherever they stand: what they write follows what stands at the front.
 data-loop : (ds bs l : List ℕ) (at to sum : ℕ) (rest : ℕ → ℕ → List ℕ → Run Outcome) → length bs ≡ at → at + length ds ≡ to → to ≤ length l
@@ -114,13 +116,13 @@ sum-loop (b ∷ bs) xs ys i at sum rest e =
     (ap (λ (l : List ℕ). sumLoop (length bs) (i + 1) at (bitXor sum b) l rest) (sym (append-snoc xs b (bs ++ ys)))
     ∙ sum-loop bs (xs ++ (b ∷ [])) ys (i + 1) at (bitXor sum b) rest (omega (arith, length-append xs (b ∷ []))))
 
-delimiter-same : (t : FrameType) (long : Bool) → computeDelimiter t long ≡ delimiter t long
-delimiter-same Request false = refl
-delimiter-same Request true = refl
-delimiter-same Response false = refl
-delimiter-same Response true = refl
-delimiter-same Burst false = refl
-delimiter-same Burst true = refl
+delimiter-same : (t : FrameType) (a : Address) → computeDelimiter t (isLong a) ≡ delimiter (openingOf t a)
+delimiter-same Request (Short m b p) = refl
+delimiter-same Request (Long m b f d n) = refl
+delimiter-same Response (Short m b p) = refl
+delimiter-same Response (Long m b f d n) = refl
+delimiter-same Burst (Short m b p) = refl
+delimiter-same Burst (Long m b f d n) = refl
 
 total-same : (long : Bool) (n k : ℕ) → n + 1 + cond long 5 1 + 1 + 1 + k + 1 ≡ total n long k
 total-same false n k = omega arith
@@ -128,7 +130,7 @@ total-same true n k = omega arith
 
 module _ (c : ℕ) (ds buffer : List ℕ) where
   -- command, count and data are one run of stores, and the check is what the sum has come to
-  tail-run : (bs : List ℕ) (at sum : ℕ) → length bs ≡ at → length ds ≤ 255 → at + 3 + length ds ≤ length buffer
+  tail-run : (bs : List ℕ) (at sum : ℕ) → length bs ≡ at → length ds ≤ dataRoom → at + 3 + length ds ≤ length buffer
       → sourceTail c ds at sum (put buffer 0 bs) ≡ comes (wrote ((bs ++ (c ∷ length ds ∷ ds)) ++ (checkFrom sum (c ∷ length ds ∷ ds) ∷ [])) buffer)
   tail-run bs at sum e few room =
       let xs = c ∷ length ds ∷ ds in
@@ -143,16 +145,16 @@ module _ (c : ℕ) (ds buffer : List ℕ) where
 
 module _ (t : FrameType) (a : Address) (c : ℕ) (ds : List ℕ) (n : ℕ) (buffer : List ℕ) where
   -- the sum goes from the delimiter over the address into the tail, so that it is the check of the whole body
-  frame-run : length ds ≤ 255 → total n (isLong a) (length ds) ≤ length buffer → preambleLoop n 0 buffer (sourceBody t a c ds) ≡ comes (wrote (layout n (wireOf t a c ds)) buffer)
+  frame-run : length ds ≤ dataRoom → total n (isLong a) (length ds) ≤ length buffer → preambleLoop n 0 buffer (sourceBody t a c ds) ≡ comes (wrote (layout n (wireOf t a c ds)) buffer)
   frame-run few room =
-      let d = delimiter t (isLong a) in
+      let d = delimiter (openingOf t a) in
       let ad = addressBytes a in
       let xs = c ∷ length ds ∷ ds in
       let pre = preambles n in
       let front = pre ++ (d ∷ []) in
       let held = put buffer 0 (front ++ ad) in
       let behind = drop (length (front ++ ad)) buffer in
-      let lp : length pre ≡ n = length-replicate {A = ℕ} n 255 in
+      let lp : length pre ≡ n = length-preambles n in
       let lf : length front ≡ n + 1 = omega (arith, length-append pre (d ∷ [])) in
       let la : length ad ≡ addressLength (isLong a) = length-address a in
       let summed : ℕ → List ℕ → Run Outcome = λ written b. sumLoop written 0 (n + 1) d b (λ sum. sourceTail c ds (n + 1 + written) sum b) in
@@ -161,7 +163,7 @@ module _ (t : FrameType) (a : Address) (c : ℕ) (ds : List ℕ) (n : ℕ) (buff
       let sum : checkFrom (checkFrom d ad) xs ≡ checkOf (wireOf t a c ds) = sym (check-first d (ad ++ xs) ∙ check-append d ad xs) in
       preamble-loop n 0 0 buffer (sourceBody t a c ds)
       ∙ loop-from-start pre buffer n (sourceBody t a c ds) lp (omega arith)
-      ∙ rw (delimiter-same t (isLong a))
+      ∙ rw (delimiter-same t a)
       (data-loop (d ∷ []) pre buffer n (n + 1) 0 (λ at s b. lentFrom b at (λ part back. sourceAddressInto a part (λ written part₁. summed written (back part₁)))) lp refl (omega arith)
       ∙ address-lent-run a front buffer (n + 1) summed lf (omega arith)
       ∙ ap (λ (b : List ℕ). sumLoop (length ad) 0 (n + 1) d b tail) (put-front buffer (front ++ ad) ∙ append-assoc front ad behind)
@@ -171,11 +173,11 @@ module _ (t : FrameType) (a : Address) (c : ℕ) (ds : List ℕ) (n : ℕ) (buff
 
   pub frame-is-source : sourceFrame t a c ds n buffer ≡ comes (encoded t a c ds n buffer)
   unfolding encoded
-  frame-is-source = rw (total-same (isLong a) n (length ds)) (by (ltb 255 (length ds)) (ltb (length buffer) (total n (isLong a) (length ds))) refl refl)
+  frame-is-source = rw (total-same (isLong a) n (length ds)) (by (ltb dataRoom (length ds)) (ltb (length buffer) (total n (isLong a) (length ds))) refl refl)
     where
-      by : (long small : Bool) → ltb 255 (length ds) ≡ long → ltb (length buffer) (total n (isLong a) (length ds)) ≡ small
+      by : (long small : Bool) → ltb dataRoom (length ds) ≡ long → ltb (length buffer) (total n (isLong a) (length ds)) ≡ small
           → cond long (comes (refuses 1 [] buffer)) (cond small (comes (refuses 2 [] buffer)) (preambleLoop n 0 buffer (sourceBody t a c ds)))
           ≡ comes (cond long (refuses 1 [] buffer) (cond small (refuses 2 [] buffer) (wrote (layout n (wireOf t a c ds)) buffer)))
       by true small e f = refl
       by false true e f = refl
-      by false false e f = frame-run (ltb-false 255 (length ds) e) (ltb-false (length buffer) (total n (isLong a) (length ds)) f)
+      by false false e f = frame-run (ltb-false dataRoom (length ds) e) (ltb-false (length buffer) (total n (isLong a) (length ds)) f)

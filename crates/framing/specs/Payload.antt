@@ -50,15 +50,25 @@ payloadPart t p = cond (handedBack (payloadJudgement t (p .bytes))) (from 2 p) (
 unfoldable pub typed : ℕ → FrameType → ℕ → List ℕ → Judgement
 typed wanted t command ds = cond (eqb command wanted) (payloadJudgement t ds) (withheld 6 [])
 
+-- what a command brings to it: its number, how a payload is read, and what stands for a refusal
+pub record Reader (A : Type 0) : Type 0 where
+  pub number : ℕ
+  pub read : List ℕ → A
+  pub refuse : ℕ → List ℕ → A
+
 -- it takes the judgement apart: what is carried, behind the status bytes, is read, and a refusal is passed on as it is
-abbrev pub passedOn : {A : Type 0} → (List ℕ → A) → (ℕ → List ℕ → A) → Judgement → List ℕ → A
-passedOn read refuse carries ds = read (drop 2 ds)
-passedOn read refuse (withheld number values) ds = refuse number values
+abbrev pub passedOn : {A : Type 0} → Reader A → Judgement → List ℕ → A
+passedOn k carries ds = k .read (drop 2 ds)
+passedOn k (withheld number values) ds = k .refuse number values
+
+-- the typed reading of a frame's type, command and data
+unfoldable pub typedIn : {A : Type 0} → Reader A → FrameType → ℕ → List ℕ → A
+typedIn k t command ds = passedOn k (typed (k .number) t command ds) ds
 
 -- a frame's own data: the first `length` bytes of its array, without the zeros behind them
 abbrev pub dataOf : Frame → List ℕ
 dataOf f = take (f .length) (f .«data»)
 
--- a typed reading of a frame
-unfoldable pub typedReading : {A : Type 0} → (List ℕ → A) → (ℕ → List ℕ → A) → ℕ → Frame → A
-typedReading read refuse wanted f = passedOn read refuse (typed wanted (f .«frame_type») (f .command) (dataOf f)) (dataOf f)
+-- and of a frame that a decoder found
+unfoldable pub typedOf : {A : Type 0} → Reader A → Frame → A
+typedOf k f = typedIn k (f .«frame_type») (f .command) (dataOf f)

@@ -1,15 +1,16 @@
 // What one byte does: to the state, which is a small value, and to the bytes beside it, which are
 // lent and never copied. Document 01, 'How a run of bytes is cut'.
-use line::ADDRESS_ROOM;
 use line::Ended;
 use line::Head;
 use line::Moved;
+use line::PREAMBLE_CAP;
 use line::State;
 use refusal::Refusal;
 use types::Delimiter;
-use types::address_length;
+use types::HEAD_ROOM;
 use types::consts::MIN_PREAMBLE_COUNT;
 use types::consts::PREAMBLE_BYTE;
+use types::head_length;
 use types::read_delimiter;
 ghost use mathlib.Core.Path.{_≡_};
 ghost use lib.ListN.{set};
@@ -44,13 +45,11 @@ fn process_delimiter(byte: u8) -> Moved
     ensures { λ r. ⌜ r ≡ delimited byte (delimiterOf byte) ⌝ }
 {
     match read_delimiter(byte) {
-        Delimiter::Known {
-            frame_type,
-            is_long,
-        } => {
+        Delimiter::Known(opening) => {
+            let frame_type = opening.frame_type;
             let head = Head {
                 frame_type,
-                long: is_long,
+                is_long: opening.is_long,
                 check: byte,
             };
             Moved {
@@ -62,19 +61,19 @@ fn process_delimiter(byte: u8) -> Moved
     }
 }
 
-// The Rust counts on, and its 8 bits overflow at the 256th FF; here the count stays at 5.
+// The Rust counts on, and its 8 bits overflow at the 256th FF; here the count stays at its cap.
 fn preamble(count: u8, byte: u8) -> Moved
     ensures { λ r. ⌜ r ≡ preambled count byte ⌝ }
 {
     if byte == PREAMBLE_BYTE {
-        if count < MIN_PREAMBLE_COUNT {
+        if count < PREAMBLE_CAP {
             return Moved {
                 state: State::Preamble(count + 1),
                 ended: Ended::Nothing,
             };
         }
         return Moved {
-            state: State::Preamble(MIN_PREAMBLE_COUNT),
+            state: State::Preamble(PREAMBLE_CAP),
             ended: Ended::Nothing,
         };
     }
@@ -94,7 +93,7 @@ fn mix(head: Head, byte: u8) -> Head
     let frame_type = head.frame_type;
     Head {
         frame_type,
-        long: head.long,
+        is_long: head.is_long,
         check: head.check ^ byte,
     }
 }
@@ -103,7 +102,7 @@ fn address(head: Head, received: u8, byte: u8) -> Moved
     ensures { λ r. ⌜ r ≡ addressed head received byte ⌝ }
 {
     let mixed = mix(head, byte);
-    if received < address_length(head.long) - 1 {
+    if received < head_length(head.opening()) - 1 {
         return Moved {
             state: State::Address {
                 head: mixed,
@@ -221,7 +220,7 @@ pub fn step(state: State, bytes: &mut [u8], byte: u8) -> Moved
             expected,
             received,
         } => {
-            keep(bytes, ADDRESS_ROOM + received as usize, byte);
+            keep(bytes, HEAD_ROOM + received as usize, byte);
             data(head, command, expected, received, byte)
         }
         State::Checksum {

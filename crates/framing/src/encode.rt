@@ -6,6 +6,7 @@ use refusal::Refusal;
 use refusal::Written;
 use types::Address;
 use types::FrameType;
+use types::Opening;
 use types::address_length;
 use types::consts::MAX_DATA_LENGTH;
 use types::consts::PREAMBLE_BYTE;
@@ -15,11 +16,11 @@ ghost use Prim.Native.Nat.{_+_, _≤_};
 ghost use lib.ListN.{length};
 ghost use Rattle.refusal.specs.Outcome.{ends, replyOf};
 ghost use Rattle.octets.specs.Check.{check};
-ghost use Rattle.octets.specs.Put.{put};
+ghost use Rattle.octets.specs.Put.{put, putIfFits};
 ghost use Rattle.types.specs.Address.{addressLength, isLong};
-ghost use Rattle.line.specs.Layout.{preambles};
+ghost use Rattle.line.specs.Layout.{mostData, preambles};
 ghost use Rattle.line.specs.Encode.{wireOf, layout, total, encoded};
-ghost use Rattle.framing.specs.Code.{head};
+ghost use Rattle.framing.specs.Code.{head, dataPlace, sealed};
 
 fn length_of(address: Address) -> usize
     ensures { λ r. ⌜ r ≡ addressLength (isLong address) ⌝ }
@@ -35,7 +36,7 @@ fn write_preambles(buf: &mut [u8], n: usize)
 }
 
 // Everything in front of the data; returns the place where the data begin. It takes their count and
-// not the data, so that a writer of a command's own fields can put them in place.
+// not the data, so that someone else can put them in place.
 fn write_head(
     frame_type: FrameType,
     address: Address,
@@ -44,12 +45,16 @@ fn write_head(
     preamble_count: u8,
     buf: &mut [u8],
 ) -> usize
-    requires { ⌜ «preamble_count» + 3 + addressLength (isLong address) ≤ length (now buf) ⌝ }
-    ensures { λ r. ⌜ (r ≡ «preamble_count» + 3 + addressLength (isLong address)) × (now (buf .exit) ≡ put (now (buf .entry)) 0 (head «frame_type» address command count «preamble_count»)) ⌝ }
+    requires { ⌜ dataPlace address «preamble_count» ≤ length (now buf) ⌝ }
+    ensures { λ r. ⌜ (r ≡ dataPlace address «preamble_count») × (now (buf .exit) ≡ put (now (buf .entry)) 0 (head «frame_type» address command count «preamble_count»)) ⌝ }
 {
     let pos = preamble_count as usize;
     write_preambles(buf, pos);
-    buf[pos] = delimiter_byte(frame_type, address.is_long());
+    let opening = Opening {
+        frame_type,
+        is_long: address.is_long(),
+    };
+    buf[pos] = delimiter_byte(opening);
     let after = pos + 1;
     address.encode(&mut buf[after..]);
     let next = after + length_of(address);
@@ -77,7 +82,7 @@ fn write_frame(
     preamble_count: u8,
     buf: &mut [u8],
 )
-    requires { ⌜ (length (now «data») ≤ 255) × (total «preamble_count» (isLong address) (length (now «data»)) ≤ length (now buf)) ⌝ }
+    requires { ⌜ (length (now «data») ≤ mostData) × (total «preamble_count» (isLong address) (length (now «data»)) ≤ length (now buf)) ⌝ }
     ensures { λ _. ⌜ now (buf .exit) ≡ put (now (buf .entry)) 0 (layout «preamble_count» (wireOf «frame_type» address command (now («data» .entry)))) ⌝ }
 {
     let from = preamble_count as usize;
@@ -115,4 +120,35 @@ pub fn encode_frame(
     }
     write_frame(frame_type, address, command, data, preamble_count, buf);
     Written::Count(total)
+}
+
+// The head of a frame whose data someone else puts in place, where it has room; returns where they begin.
+pub(crate) fn open_frame(
+    frame_type: FrameType,
+    address: Address,
+    command: u8,
+    count: u8,
+    preamble_count: u8,
+    buf: &mut [u8],
+) -> usize
+    ensures { λ r. ⌜ (r ≡ dataPlace address «preamble_count») × (now (buf .exit) ≡ putIfFits (now (buf .entry)) 0 (head «frame_type» address command count «preamble_count»)) ⌝ }
+{
+    let at = preamble_count as usize + 3 + length_of(address);
+    if buf.len() < at {
+        return at;
+    }
+    write_head(frame_type, address, command, count, preamble_count, buf)
+}
+
+// The check of what stands from one place up to another, written behind it where there is room.
+pub(crate) fn seal_frame(buf: &mut [u8], from: usize, to: usize)
+    ensures { λ _. ⌜ now (buf .exit) ≡ sealed (now (buf .entry)) from to ⌝ }
+{
+    if to < from {
+        return;
+    }
+    if buf.len() <= to {
+        return;
+    }
+    buf[to] = checksum_from(0, &buf[from..to]);
 }

@@ -1,25 +1,26 @@
 // Which decoder values some run of bytes leads to. Document 01, 'What comes back': feeding any other
 // is refused with 8.
-use line::ADDRESS_ROOM;
 use line::Claim;
 use line::Head;
+use line::PREAMBLE_CAP;
 use line::ROOM;
 use line::State;
 use octets::checksum_from;
-use types::address_length;
-use types::consts::MIN_PREAMBLE_COUNT;
+use types::HEAD_ROOM;
 use types::delimiter_byte;
+use types::head_length;
 ghost use mathlib.Core.Path.{_≡_};
 ghost use mathlib.Core.Bool.{true};
 ghost use Prim.Native.Nat.{_≤_};
 ghost use lib.ListN.{length, drop};
-ghost use Rattle.line.specs.machine.Room.{addressRoom, decoderRoom};
+ghost use Rattle.types.specs.Address.{headRoom};
+ghost use Rattle.line.specs.machine.Room.{decoderRoom};
 ghost use Rattle.line.specs.machine.Reachable.{claim, noClaim, claimOf, allZero, isClear, isRight, reachableAt};
 
 // So many bytes at a time: a multiple of what vector registers hold.
 const STRIDE: usize = 64;
 
-// The 260 bytes are four strides and these.
+// A decoder's bytes are four strides and these.
 const ODD: usize = ROOM - 4 * STRIDE;
 
 fn no_claim(possible: bool) -> Claim
@@ -39,11 +40,11 @@ fn no_claim(possible: bool) -> Claim
 fn claimed(possible: bool, head: Head, address: u8, command: u8, count: u8, loaded: u8) -> Claim
     ensures { λ r. ⌜ r ≡ claim possible head address command count loaded ⌝ }
 {
-    let frame_type = head.frame_type;
+    let opening = head.opening();
     Claim {
         possible,
         check: head.check,
-        start: delimiter_byte(frame_type, head.long),
+        start: delimiter_byte(opening),
         address,
         command,
         count,
@@ -56,16 +57,16 @@ fn claim_of(state: State) -> Claim
 {
     match state {
         State::Hunting => no_claim(true),
-        State::Preamble(count) => no_claim((0 < count) & (count <= MIN_PREAMBLE_COUNT)),
+        State::Preamble(count) => no_claim((0 < count) & (count <= PREAMBLE_CAP)),
         State::Address { head, received } => {
-            let all = address_length(head.long);
+            let all = head_length(head.opening());
             claimed(received < all, head, received, 0, 0, 0)
         }
-        State::Command { head } => claimed(true, head, address_length(head.long), 0, 0, 0),
+        State::Command { head } => claimed(true, head, head_length(head.opening()), 0, 0, 0),
         State::ByteCount { head, command } => claimed(
             true,
             head,
-            address_length(head.long),
+            head_length(head.opening()),
             command,
             0,
             0,
@@ -76,7 +77,7 @@ fn claim_of(state: State) -> Claim
             expected,
             received,
         } => {
-            let all = address_length(head.long);
+            let all = head_length(head.opening());
             claimed(received < expected, head, all, command, expected, received)
         }
         State::Checksum {
@@ -84,7 +85,7 @@ fn claim_of(state: State) -> Claim
             command,
             expected,
         } => {
-            let all = address_length(head.long);
+            let all = head_length(head.opening());
             claimed(true, head, all, command, expected, expected)
         }
     }
@@ -122,9 +123,9 @@ fn is_zero_from(bytes: &[u8], from: usize) -> bool
 
 // Whether the check is that of the bytes that were read, if none stands past them. Zeros do not change a
 // check, nor does the order, so that command and count come first and whole strides are mixed: behind the
-// four odd bytes in front there is place for them.
+// odd bytes in front there is place for them.
 fn is_right(claim: Claim, bytes: &[u8]) -> bool
-    requires { ⌜ (claim .address ≤ addressRoom) × (length (now bytes) ≡ decoderRoom) ⌝ }
+    requires { ⌜ (claim .address ≤ headRoom) × (length (now bytes) ≡ decoderRoom) ⌝ }
     ensures { λ r. ⌜ (isClear claim (now (bytes .entry)) ≡ true → r ≡ isRight claim (now (bytes .entry))) ⌝ }
 {
     let start = claim.start ^ claim.command ^ claim.count;
@@ -142,8 +143,8 @@ pub fn is_reachable(state: State, bytes: &[u8]) -> bool
     let claim = claim_of(state);
     if claim.possible {
         let address = claim.address as usize;
-        let address_clear = is_zero(&bytes[address..ADDRESS_ROOM]);
-        let data_clear = is_zero_from(bytes, ADDRESS_ROOM + claim.loaded as usize);
+        let address_clear = is_zero(&bytes[address..HEAD_ROOM]);
+        let data_clear = is_zero_from(bytes, HEAD_ROOM + claim.loaded as usize);
         let right = is_right(claim, bytes);
         return address_clear & data_clear & right;
     }

@@ -4,17 +4,19 @@ use native.Mathlib.Omega.{arith}
 use mathlib.Core.Path.{_≡_, sym, ap, ap₂, subst, _∙_}
 use mathlib.Core.Bool.{Bool, true, _&&_}
 use mathlib.Core.List.{List, _++_}
-use lib.Dec.{eqb, ltb, leb, lit<}
+use lib.Dec.{eqb, ltb, lit<}
 use lib.ListN.{length, take, drop, take-append-drop, length-drop}
 use lib.Seq.{take-at, drop-at, length-take-le}
 use borrow.Author.Tests.{eqb-true, eq-eqb, ltb-true, leb-true}
 use Rattle.octets.specs.Digits.{digits, fromDigits}
 use Rattle.octets.proofs.Digits.{length-digits, from-digits-whole, digits-from}
-use Rattle.types.specs.Address.{addressLength}
-use Rattle.types.proofs.Addresses.{address-length-le}
+use Rattle.types.specs.Address.{headLength}
+use Rattle.types.proofs.Addresses.{head-length-le}
+use Rattle.line.specs.machine.Step.{openingIn}
 use Rattle.line.specs.Pieces.{Bytes}
 use Rattle.line.proofs.Bytes.{bytes-left, bytes-right}
-use Rattle.line.specs.machine.Reachable.{reachableAt, claimOf, isClear, isRight}
+use Rattle.line.specs.machine.Room.{decoderRoom}
+use Rattle.line.specs.machine.Reachable.{claimOf}
 use Rattle.line.specs.machine.Feed.{Held, holding, fresh, reachable}
 use Rattle.line.specs.machine.Demand.{hears, SmallState, Value, Reached}
 use Rattle.line.specs.declared.state.State.{State}
@@ -28,44 +30,39 @@ use Rattle.line.specs.declared.state.State.the-variants.{
   Checksum,
 }
 use Rattle.line.proofs.machine.Zeros.{and-first, and-second}
+use Rattle.line.proofs.machine.Claims.{whole, possible}
 use Rattle.line.proofs.machine.Exact.{reached-reachable, reachable-reached}
 use Rattle.line.proofs.machine.Small.{reached-value}
 use Rattle.host.specs.Header.{headerOf, stateAt}
-use Rattle.host.proofs.Headers.{Fitting, state-back, header-small, state-small}
-use Rattle.host.specs.Block.{blockSize, blockOf, headerIn, stateIn, heldIn, accepted}
+use Rattle.host.proofs.Headers.{Fitting, state-back, header-small, without-fits, with-fits, state-small}
+use Rattle.host.specs.Block.{headerSize, blockSize, blockOf, headerIn, stateIn, heldIn, accepted}
 use Rattle.host.specs.Demand.{Brought}
 
 -- the numbers of a state that passes the test fit their fields
 fits-field : (s : State) → SmallState s → claimOf s .possible ≡ true → Fitting s
-fits-field Hunting z p = tt
-fits-field (Preamble n) z p = omega (arith, leb-true n 5 (and-second (ltb 0 n) (leb n 5) p))
-fits-field (Address h k) z p = (z .0, omega (arith, ltb-true k (addressLength (h .long)) p, address-length-le (h .long)))
-fits-field (Command h) z p = z
-fits-field (ByteCount h c) z p = z
-fits-field (Data h c e n) z p = z
-fits-field (Checksum h c e) z p = z
-
-possible : (d : Held) → reachable d ≡ true → claimOf (d .state) .possible ≡ true
-unfolding reachableAt
-possible d r =
-    let q = claimOf (d .state) in
-    and-first (q .possible) (isClear q (d .bytes) && isRight q (d .bytes)) (and-second (eqb (length (d .bytes)) 260) _ r)
+fits-field Hunting z p = without-fits 0 0 (omega arith) (omega arith)
+fits-field (Preamble n) z p = without-fits 1 n (omega arith) (leb-true n _ (and-second (ltb 0 n) _ p))
+fits-field (Address h k) z p = with-fits 2 h k 0 0 0 (omega arith) (z .0) (omega (arith, ltb-true k (headLength (openingIn h)) p, head-length-le (openingIn h))) (omega arith) (omega arith) (omega arith)
+fits-field (Command h) z p = with-fits 3 h (headLength (openingIn h)) 0 0 0 (omega arith) z (head-length-le (openingIn h)) (omega arith) (omega arith) (omega arith)
+fits-field (ByteCount h c) z p = with-fits 4 h (headLength (openingIn h)) 0 0 c (omega arith) (z .0) (head-length-le (openingIn h)) (omega arith) (omega arith) (z .1)
+fits-field (Data h c e n) z p = with-fits 5 h (headLength (openingIn h)) e n c (omega arith) (z .0) (head-length-le (openingIn h)) (z .2) (z .3) (z .1)
+fits-field (Checksum h c e) z p = with-fits 6 h (headLength (openingIn h)) e e c (omega arith) (z .0) (head-length-le (openingIn h)) (z .2) (z .2) (z .1)
 
 fitting : (d : Held) → Value d → reachable d ≡ true → Fitting (d .state)
-fitting d v r = fits-field (d .state) (v .state) (possible d r)
+fitting d v r = fits-field (d .state) (v .state) (possible (d .state) (d .bytes) r)
 
 -- what is stored is loaded again
 module _ (d : Held) (f : Fitting (d .state)) where
   header-back : headerIn (blockOf d) ≡ headerOf (d .state)
   header-back =
-      ap (fromDigits 256) (take-at (digits 256 6 (headerOf (d .state))) (d .bytes) 6 (length-digits 256 6 (headerOf (d .state))))
-      ∙ from-digits-whole 256 6 (headerOf (d .state)) (lit< tt) (header-small (d .state) f)
+      ap (fromDigits 256) (take-at (digits 256 headerSize (headerOf (d .state))) (d .bytes) headerSize (length-digits 256 headerSize (headerOf (d .state))))
+      ∙ from-digits-whole 256 headerSize (headerOf (d .state)) (lit< tt) (header-small (d .state) f)
 
   state-loaded : stateIn (blockOf d) ≡ d .state
   state-loaded = ap stateAt header-back ∙ state-back (d .state) f
 
-  bytes-loaded : drop 6 (blockOf d) ≡ d .bytes
-  bytes-loaded = drop-at (digits 256 6 (headerOf (d .state))) (d .bytes) 6 (length-digits 256 6 (headerOf (d .state)))
+  bytes-loaded : drop headerSize (blockOf d) ≡ d .bytes
+  bytes-loaded = drop-at (digits 256 headerSize (headerOf (d .state))) (d .bytes) headerSize (length-digits 256 headerSize (headerOf (d .state)))
 
   held-loaded : heldIn (blockOf d) ≡ d
   held-loaded = ap₂ holding state-loaded bytes-loaded
@@ -81,10 +78,9 @@ unfolding accepted
 accepted-reachable block a = and-second (eqb (headerOf (stateIn block)) (headerIn block)) (reachable (heldIn block)) a
 
 pub accepted-size : (block : List ℕ) → accepted block ≡ true → length block ≡ blockSize
-unfolding reachableAt
 accepted-size block a =
-    let e : length (drop 6 block) ≡ 260 = eqb-true (length (drop 6 block)) 260 (and-first (eqb (length (drop 6 block)) 260) _ (accepted-reachable block a)) in
-    omega (arith, length-drop 6 block)
+    let e : length (drop headerSize block) ≡ decoderRoom = whole (stateIn block) (drop headerSize block) (accepted-reachable block a) in
+    omega (arith, length-drop headerSize block)
 
 -- what is loaded from an accepted block is stored as it was
 pub block-back : (block : List ℕ) → Bytes block → accepted block ≡ true → blockOf (heldIn block) ≡ block
@@ -92,10 +88,10 @@ unfolding accepted
 block-back block k a =
     let h = headerOf (stateIn block) in
     let same : h ≡ headerIn block = eqb-true h (headerIn block) (and-first (eqb h (headerIn block)) (reachable (heldIn block)) a) in
-    let size : length (take 6 block) ≡ 6 = length-take-le 6 block (omega (arith, accepted-size block a)) in
-    let front : digits 256 6 h ≡ take 6 block =
-    ap (digits 256 6) same ∙ ap (λ (n : ℕ). digits 256 n (headerIn block)) (sym size) ∙ digits-from 256 (take 6 block) (bytes-left (take 6 block) (drop 6 block) (subst Bytes (sym (take-append-drop 6 block)) k)) in
-    ap (λ (q : List ℕ). q ++ drop 6 block) front ∙ take-append-drop 6 block
+    let size : length (take headerSize block) ≡ headerSize = length-take-le headerSize block (omega (arith, accepted-size block a)) in
+    let front : digits 256 headerSize h ≡ take headerSize block =
+    ap (digits 256 headerSize) same ∙ ap (λ (n : ℕ). digits 256 n (headerIn block)) (sym size) ∙ digits-from 256 (take headerSize block) (bytes-left (take headerSize block) (drop headerSize block) (subst Bytes (sym (take-append-drop headerSize block)) k)) in
+    ap (λ (q : List ℕ). q ++ drop headerSize block) front ∙ take-append-drop headerSize block
 
 -- a block is accepted if some run leads to it, and only then
 pub stored-accepted : (d : Held) → Value d → reachable d ≡ true → accepted (blockOf d) ≡ true
@@ -114,7 +110,7 @@ pub accepted-brought : (block : List ℕ) → Bytes block → accepted block ≡
 accepted-brought block k a =
     let v : Value (heldIn block) = record {
       state = state-small (headerIn block);
-      bytes = bytes-right (take 6 block) (drop 6 block) (subst Bytes (sym (take-append-drop 6 block)) k);
-      whole = length-drop 6 block ∙ omega (arith, accepted-size block a);
+      bytes = bytes-right (take headerSize block) (drop headerSize block) (subst Bytes (sym (take-append-drop headerSize block)) k);
+      whole = length-drop headerSize block ∙ omega (arith, accepted-size block a);
     } in
     record { decoder = heldIn block; reached = reachable-reached (heldIn block) v (accepted-reachable block a); is = block-back block k a }

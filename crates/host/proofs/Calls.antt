@@ -17,6 +17,7 @@ use Rattle.line.proofs.Scan.{Scan, hunt, scan, told, Fine}
 use Rattle.line.proofs.Unique.{scanned-whole}
 use Rattle.line.proofs.Exists.{fine-scan}
 use Rattle.line.proofs.Follows.{gathered, follows-says}
+use Rattle.line.specs.machine.Room.{decoderRoom}
 use Rattle.line.specs.machine.Step.{movedAt, storedAt}
 use Rattle.line.specs.machine.Feed.{Held, blank, settledBy, settled, stepped, feeding}
 use Rattle.line.specs.declared.state.State.{State}
@@ -39,7 +40,7 @@ use Rattle.line.proofs.machine.Settled.{settled-event}
 use Rattle.host.specs.Header.{headerOf}
 use Rattle.host.specs.Record.{recordOf, recordRoom}
 use Rattle.host.proofs.RecordLengths.{event-short}
-use Rattle.host.specs.Block.{blockSize, blockOf, heldIn, accepted, refusing, recorded, fedBlock, Cleared}
+use Rattle.host.specs.Block.{headerSize, blockSize, blockOf, heldIn, accepted, refusing, recorded, fedBlock, Cleared}
 use Rattle.host.specs.Demand.{
   Lending,
   HostCall,
@@ -74,7 +75,7 @@ stored-whole (ByteCount h c) bs b = refl
 stored-whole (Data h c e n) bs b = length-set bs _ b
 stored-whole (Checksum h c e) bs b = refl
 
-pub stepped-short : (d : Held) (b : ℕ) → length (d .bytes) ≡ 260 → length (recordOf ((stepped d b) .1)) ≤ recordRoom
+pub stepped-short : (d : Held) (b : ℕ) → length (d .bytes) ≡ decoderRoom → length (recordOf ((stepped d b) .1)) ≤ recordRoom
 unfolding stepped
 stepped-short d b e =
     let m = movedAt (d .state) b in
@@ -158,7 +159,7 @@ called xs k h =
 
 -- ---- a clear between calls
 
-settled-whole : (x : Ended) (s : State) (bs : List ℕ) → length bs ≡ 260 → length ((settledBy x s bs) .0 .bytes) ≡ 260
+settled-whole : (x : Ended) (s : State) (bs : List ℕ) → length bs ≡ decoderRoom → length ((settledBy x s bs) .0 .bytes) ≡ decoderRoom
 unfolding blank
 settled-whole ended.Nothing s bs e = e
 settled-whole (ended.Frame h c n) s bs e = refl
@@ -184,8 +185,8 @@ call-whole block (withByte x) e = by (accepted block) (leb recordRoom (length (x
     by true false = e
     by true true =
         let next = (settled moved stored) .0 in
-        let kept : length stored ≡ 260 = stored-whole (d .state) (d .bytes) (x .byte) ∙ omega (arith, length-drop 6 block) in
-        omega (arith, length-append (digits 256 6 (headerOf (next .state))) (next .bytes), length-digits 256 6 (headerOf (next .state)), settled-whole (moved .ended) (moved .state) stored kept)
+        let kept : length stored ≡ decoderRoom = stored-whole (d .state) (d .bytes) (x .byte) ∙ omega (arith, length-drop headerSize block) in
+        omega (arith, length-append (digits 256 headerSize (headerOf (next .state))) (next .bytes), length-digits 256 headerSize (headerOf (next .state)), settled-whole (moved .ended) (moved .state) stored kept)
 
 -- a clear ends the run, whatever was in the block: it gives 0, and what follows is given, and leaves the block, as from a cleared one
 pub clear-starts : (block : List ℕ) (before after : List HostCall) → length block ≡ blockSize

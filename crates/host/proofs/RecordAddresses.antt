@@ -3,12 +3,12 @@ use Prim.Native.Nat.{ℕ, _/_, _%_}
 use native.Mathlib.Omega.{arith}
 use mathlib.Core.Path.{_≡_}
 use mathlib.Core.Bool.{Bool, true, false}
-use lib.ListN.{getD}
+use lib.ListN.{getD, take}
 use Rattle.types.specs.declared.first.MasterRole.{MasterRole}
 use Rattle.types.specs.declared.first.MasterRole.the-variants.{Primary, Secondary}
 use Rattle.types.specs.First.{masterOf}
 use Rattle.octets.specs.Bit.{bit}
-use Rattle.types.specs.Address.{firstByte, addressBytes}
+use Rattle.types.specs.Address.{addressLength, firstByte, addressBytes}
 use Rattle.line.specs.Layout.{Wire}
 use Rattle.host.specs.Record.{frameRecord}
 
@@ -19,8 +19,8 @@ low-only Secondary false low = omega arith
 low-only Secondary true low = omega arith
 
 -- in a record the two bits above a polling address are clear, though a line may set them
-pub short-bits-clear : (w : Wire) → w .long ≡ false → getD (frameRecord w) 1 0 / 16 % 4 ≡ 0
+pub short-bits-clear : (w : Wire) → w .opening .«is_long» ≡ false → getD (frameRecord w) 1 0 / 16 % 4 ≡ 0
 unfolding addressBytes
 short-bits-clear w e =
-    let first = getD (w .address) 0 0 in
+    let first = getD (take (addressLength false) (w .heading)) 0 0 in
     rw e (low-only (masterOf first) (bit 6 first) (first % 16))

@@ -9,7 +9,7 @@ use lib.Dec.{eqb, leb}
 use lib.ListN.{length, replicate, length-drop}
 use Rattle.line.specs.machine.Feed.{stepped}
 use Rattle.host.specs.Record.{recordOf, recordRoom}
-use Rattle.host.specs.Block.{blockSize, heldIn, accepted, tells, refusing, recorded, fedBlock, clears, clearedBlock}
+use Rattle.host.specs.Block.{headerSize, blockSize, heldIn, accepted, tells, refusing, recorded, fedBlock, clears, clearedBlock}
 use Rattle.host.proofs.Accepted.{accepted-size}
 use Rattle.host.proofs.Calls.{stepped-short}
 
@@ -22,7 +22,7 @@ fed-untouched block lent b number block′ lent′ = by (accepted block) refl (l
         → (block′ ≡ block) × (lent′ ≡ lent)
     by true a true e =
         let n : length (recordOf (stepped (heldIn block) b .1)) ≡ 1000 + number = cc in
-        absurd (omega (arith, stepped-short (heldIn block) b (omega (arith, length-drop 6 block, accepted-size block a))))
+        absurd (omega (arith, stepped-short (heldIn block) b (omega (arith, length-drop headerSize block, accepted-size block a))))
     by true a false e = (cc, cc)
     by false a room e = (cc, cc)
 

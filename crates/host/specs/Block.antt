@@ -1,5 +1,5 @@
 -- Document 01, 'For the C host': the state block, which blocks are accepted, and what the two calls come to.
-use Prim.Native.Nat.{ℕ, _+_}
+use Prim.Native.Nat.{ℕ, _+_, _/_}
 use mathlib.Core.Bool.{Bool, cond, _&&_}
 use mathlib.Core.List.{List, _++_}
 use lib.Dec.{eqb, leb}
@@ -10,12 +10,13 @@ use Rattle.line.specs.Events.{Event}
 use Rattle.line.specs.machine.Room.{decoderRoom}
 use Rattle.line.specs.machine.Feed.{Held, holding, reachable, stepped}
 use Rattle.line.specs.declared.state.State.{State}
-use Rattle.host.specs.Header.{headerOf, stateAt}
+use Rattle.host.specs.Bits.{widthOf}
+use Rattle.host.specs.Header.{headerWidths, headerOf, stateAt}
 use Rattle.host.specs.Record.{recordOf, recordRoom}
 
--- the header's six bytes stand in front of the 260 that a decoder holds
+-- the header's bytes stand in front of those that a decoder holds
 abbrev pub headerSize : ℕ
-headerSize = 6
+headerSize = widthOf headerWidths / 8
 
 abbrev pub blockSize : ℕ
 blockSize = headerSize + decoderRoom

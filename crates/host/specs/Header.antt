@@ -1,13 +1,14 @@
--- Document 01, 'For the C host': the 48 bits in front of a state block, and which state they say.
+-- Document 01, 'For the C host': the bits in front of a state block, and which state they say.
 use Prim.Native.Nat.{ℕ}
 use mathlib.Core.Bool.{Bool, true, false, cond}
-use mathlib.Core.List.{[], _∷_}
+use mathlib.Core.List.{List, [], _∷_}
 use lib.Dec.{eqb}
+use lib.ListN.{getD}
 use Rattle.types.specs.declared.delimiter.FrameType.{FrameType}
 use Rattle.types.specs.declared.delimiter.FrameType.the-variants.{Request, Response, Burst}
-use Rattle.types.specs.Delimiter.{typeNumber}
-use Rattle.types.specs.Address.{addressLength}
-use Rattle.line.specs.machine.Step.{headOf}
+use Rattle.types.specs.Delimiter.{typeNumber, opening}
+use Rattle.types.specs.Address.{headLength}
+use Rattle.line.specs.machine.Step.{headOf, openingIn}
 use Rattle.line.specs.declared.state.Head.{Head}
 use Rattle.line.specs.declared.state.State.{State}
 use Rattle.line.specs.declared.state.State.the-variants.{
@@ -19,48 +20,60 @@ use Rattle.line.specs.declared.state.State.the-variants.{
   Data,
   Checksum,
 }
-use Rattle.host.specs.Bits.{ofWidth, sideBySide, field}
+use Rattle.host.specs.Bits.{sideBySide, apart}
+
+-- phase, type, long, preamble count, address bytes received, data expected, data received, command, running check, and zero bits
+abbrev pub headerWidths : List ℕ
+headerWidths = 3 ∷ 2 ∷ 1 ∷ 3 ∷ 3 ∷ 8 ∷ 8 ∷ 8 ∷ 8 ∷ 4 ∷ []
 
 abbrev pub longBit : Bool → ℕ
 longBit false = 0
 longBit true = 1
 
--- phase, type, long, preamble count, address bytes received, data expected, data received, command, running check, and four zero bits
-abbrev pub bits : ℕ → ℕ → ℕ → ℕ → ℕ → ℕ → ℕ → ℕ → ℕ → ℕ
-bits phase type long preambles address expected received command check =
-    sideBySide (ofWidth 3 phase ∷ ofWidth 2 type ∷ ofWidth 1 long ∷ ofWidth 3 preambles ∷ ofWidth 3 address ∷ ofWidth 8 expected ∷ ofWidth 8 received ∷ ofWidth 8 command ∷ ofWidth 8 check ∷ ofWidth 4 0 ∷ [])
+-- the numbers in these fields: before a delimiter the preamble count alone
+abbrev pub withoutHead : ℕ → ℕ → List ℕ
+withoutHead phase preambles = phase ∷ 0 ∷ 0 ∷ preambles ∷ 0 ∷ 0 ∷ 0 ∷ 0 ∷ 0 ∷ 0 ∷ []
 
--- behind a delimiter: what it said and the check so far, and no preamble count any more
-abbrev pub headBits : ℕ → Head → ℕ → ℕ → ℕ → ℕ → ℕ
-headBits phase h address expected received command = bits phase (typeNumber (h .«frame_type»)) (longBit (h .long)) 0 address expected received command (h .check)
+-- behind it what it said and the check so far, and no preamble count any more
+abbrev pub withHead : ℕ → Head → ℕ → ℕ → ℕ → ℕ → List ℕ
+withHead phase h address expected received command =
+    phase ∷ typeNumber (h .«frame_type») ∷ longBit (h .«is_long») ∷ 0 ∷ address ∷ expected ∷ received ∷ command ∷ h .check ∷ 0 ∷ []
 
 -- the phases from 0; the address stays received behind its phase, and whatever is not yet read is zero
+abbrev pub headerFields : State → List ℕ
+headerFields Hunting = withoutHead 0 0
+headerFields (Preamble n) = withoutHead 1 n
+headerFields (Address h k) = withHead 2 h k 0 0 0
+headerFields (Command h) = withHead 3 h (headLength (openingIn h)) 0 0 0
+headerFields (ByteCount h c) = withHead 4 h (headLength (openingIn h)) 0 0 c
+headerFields (Data h c e n) = withHead 5 h (headLength (openingIn h)) e n c
+headerFields (Checksum h c e) = withHead 6 h (headLength (openingIn h)) e e c
+
 unfoldable pub headerOf : State → ℕ
-headerOf Hunting = bits 0 0 0 0 0 0 0 0 0
-headerOf (Preamble n) = bits 1 0 0 n 0 0 0 0 0
-headerOf (Address h k) = headBits 2 h k 0 0 0
-headerOf (Command h) = headBits 3 h (addressLength (h .long)) 0 0 0
-headerOf (ByteCount h c) = headBits 4 h (addressLength (h .long)) 0 0 c
-headerOf (Data h c e n) = headBits 5 h (addressLength (h .long)) e n c
-headerOf (Checksum h c e) = headBits 6 h (addressLength (h .long)) e e c
+headerOf s = sideBySide headerWidths (headerFields s)
 
--- read again, whatever the bits are: that nothing else stands in them is for `headerOf` to tell
-abbrev pub typeAt : ℕ → FrameType
-typeAt n = cond (eqb (field 43 2 n) 1) Response (cond (eqb (field 43 2 n) 2) Burst Request)
+-- read again, whatever the numbers are: that nothing else stands in the bits is for `headerOf` to tell
+abbrev pub typeNumbered : ℕ → FrameType
+typeNumbered n = cond (eqb n 1) Response (cond (eqb n 2) Burst Request)
 
-abbrev pub headAt : ℕ → Head
-headAt n = headOf (typeAt n) (eqb (field 42 1 n) 1) (field 4 8 n)
+abbrev pub headSaid : ℕ → ℕ → ℕ → Head
+headSaid type long check = headOf (opening (typeNumbered type) (eqb long 1)) check
 
 -- a phase of seven, which no header has, is read as hunting
-abbrev pub inPhase : ℕ → ℕ → State
-inPhase phase n =
-    cond (eqb phase 1) (Preamble (field 39 3 n))
-    (cond (eqb phase 2) (Address (headAt n) (field 36 3 n))
-    (cond (eqb phase 3) (Command (headAt n))
-    (cond (eqb phase 4) (ByteCount (headAt n) (field 12 8 n))
-    (cond (eqb phase 5) (Data (headAt n) (field 12 8 n) (field 28 8 n) (field 20 8 n))
-    (cond (eqb phase 6) (Checksum (headAt n) (field 12 8 n) (field 28 8 n))
+abbrev pub stateSaid : ℕ → ℕ → ℕ → ℕ → ℕ → ℕ → ℕ → ℕ → ℕ → State
+stateSaid phase type long preambles address expected received command check =
+    let h = headSaid type long check in
+    cond (eqb phase 1) (Preamble preambles)
+    (cond (eqb phase 2) (Address h address)
+    (cond (eqb phase 3) (Command h)
+    (cond (eqb phase 4) (ByteCount h command)
+    (cond (eqb phase 5) (Data h command expected received)
+    (cond (eqb phase 6) (Checksum h command expected)
     Hunting)))))
 
+-- the fields in their order, but for the zero bits
+abbrev pub stateBy : List ℕ → State
+stateBy ns = let at : ℕ → ℕ = λ i. getD ns i 0 in stateSaid (at 0) (at 1) (at 2) (at 3) (at 4) (at 5) (at 6) (at 7) (at 8)
+
 unfoldable pub stateAt : ℕ → State
-stateAt n = inPhase (field 45 3 n) n
+stateAt n = stateBy (apart headerWidths n)

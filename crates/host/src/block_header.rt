@@ -1,16 +1,41 @@
-// The 48 bits in front of a C host's state block, as one number: where a decoder stands, field by
-// field. Document 01, 'For the C host'.
+// The bits in front of a C host's state block, as one number: where a decoder stands, field by field.
+// Document 01, 'For the C host'.
 use line::Head;
 use line::State;
 use types::FrameType;
-use types::address_length;
-ghost use Prim.Native.Nat.{_^_, _<_};
+use types::head_length;
+ghost use Prim.Native.Nat.{_<_};
 ghost use mathlib.Core.Path.{_≡_};
-ghost use mathlib.Core.List.{[], _∷_};
-ghost use Rattle.octets.specs.Digits.{digits, fromDigits};
-ghost use Rattle.types.specs.Address.{addressLength};
-ghost use Rattle.host.specs.Header.{longBit, bits, headBits, headerOf, typeAt, headAt, stateAt};
-ghost use Rattle.host.specs.Code.{summed};
+ghost use Rattle.types.specs.Address.{headLength};
+ghost use Rattle.line.specs.machine.Step.{openingIn};
+ghost use Rattle.host.specs.Bits.{sideBySide};
+ghost use Rattle.host.specs.Header.{headerWidths, longBit, withoutHead, withHead, headerOf, typeNumbered, headSaid, stateAt};
+ghost use Rattle.host.specs.Code.{headerEnd, summed};
+
+// What a one in each field counts for, the last field first: each stands above the bits of the field behind
+// it, the check above the zero bits. A field is read as what is below the next one, over its own.
+const CHECK: u64 = 16;
+
+const COMMAND: u64 = CHECK * 256;
+
+const RECEIVED: u64 = COMMAND * 256;
+
+const EXPECTED: u64 = RECEIVED * 256;
+
+const ADDRESS: u64 = EXPECTED * 256;
+
+const PREAMBLES: u64 = ADDRESS * 8;
+
+const LONG: u64 = PREAMBLES * 8;
+
+const TYPE: u64 = LONG * 2;
+
+const PHASE: u64 = TYPE * 4;
+
+const END: u64 = PHASE * 8;
+
+// The bytes of all the fields together: a number below `END` has no more.
+pub(crate) const HEADER_SIZE: usize = 6;
 
 // The bit that a block and a record have for a long address.
 pub(crate) fn long_bit(long: bool) -> u8
@@ -34,19 +59,19 @@ struct Fields {
     counts: u64,
 }
 
-// The fields side by side, and four bits that are zero.
+// The fields side by side. The first three are moved up together, which takes fewer instructions.
 fn packed(fields: Fields) -> u64
-    requires { ⌜ fields .counts < 2 ^ 48 ⌝ }
+    requires { ⌜ fields .counts < headerEnd ⌝ }
     ensures { λ r. ⌜ r ≡ summed fields ⌝ }
 {
-    let opened = (fields.phase as u64 * 4 + fields.frame_type as u64) * 2 + fields.long as u64;
-    let front = opened * 0x400_0000_0000 + fields.address as u64 * 0x10_0000_0000;
-    front + fields.counts + fields.check as u64 * 16
+    let typed = fields.phase as u64 * (PHASE / LONG) + fields.frame_type as u64 * (TYPE / LONG);
+    let opened = (typed + fields.long as u64) * LONG;
+    opened + fields.address as u64 * ADDRESS + fields.counts + fields.check as u64 * CHECK
 }
 
 // The fields of a state before a delimiter.
 fn without_head(phase: u8, preambles: u8) -> Fields
-    ensures { λ r. ⌜ (r .counts < 2 ^ 48) × (summed r ≡ bits phase 0 0 preambles 0 0 0 0 0) ⌝ }
+    ensures { λ r. ⌜ (r .counts < headerEnd) × (summed r ≡ sideBySide headerWidths (withoutHead phase preambles)) ⌝ }
 {
     Fields {
         phase,
@@ -54,36 +79,36 @@ fn without_head(phase: u8, preambles: u8) -> Fields
         long: 0,
         address: 0,
         check: 0,
-        counts: preambles as u64 * 0x80_0000_0000,
+        counts: preambles as u64 * PREAMBLES,
     }
 }
 
 // The fields of a state behind a delimiter. The data's two counts and the command are 0 until read.
 fn with_head(phase: u8, head: Head, address: u8, expected: u8, received: u8, command: u8) -> Fields
-    ensures { λ r. ⌜ (r .counts < 2 ^ 48) × (summed r ≡ headBits phase head address expected received command) ⌝ }
+    ensures { λ r. ⌜ (r .counts < headerEnd) × (summed r ≡ sideBySide headerWidths (withHead phase head address expected received command)) ⌝ }
 {
     let frame_type = head.frame_type;
-    let loaded = expected as u64 * 256 + received as u64;
+    let loaded = expected as u64 * EXPECTED + received as u64 * RECEIVED;
     Fields {
         phase,
         frame_type: frame_type.number(),
-        long: long_bit(head.long),
+        long: long_bit(head.is_long),
         address,
         check: head.check,
-        counts: (loaded * 256 + command as u64) * 0x1000,
+        counts: loaded + command as u64 * COMMAND,
     }
 }
 
 // The same behind the address, which stays received.
 fn behind_address(phase: u8, head: Head, expected: u8, received: u8, command: u8) -> Fields
-    ensures { λ r. ⌜ (r .counts < 2 ^ 48) × (summed r ≡ headBits phase head (addressLength (head .long)) expected received command) ⌝ }
+    ensures { λ r. ⌜ (r .counts < headerEnd) × (summed r ≡ sideBySide headerWidths (withHead phase head (headLength (openingIn head)) expected received command)) ⌝ }
 {
-    let address = address_length(head.long);
+    let address = head_length(head.opening());
     with_head(phase, head, address, expected, received, command)
 }
 
 fn fields_of(state: State) -> Fields
-    ensures { λ r. ⌜ (r .counts < 2 ^ 48) × (summed r ≡ headerOf state) ⌝ }
+    ensures { λ r. ⌜ (r .counts < headerEnd) × (summed r ≡ headerOf state) ⌝ }
 {
     match state {
         State::Hunting => without_head(0, 0),
@@ -112,10 +137,9 @@ pub(crate) fn header_of(state: State) -> u64
     packed(fields_of(state))
 }
 
-fn type_at(header: u64) -> FrameType
-    ensures { λ r. ⌜ r ≡ typeAt header ⌝ }
+fn type_numbered(number: u64) -> FrameType
+    ensures { λ r. ⌜ r ≡ typeNumbered number ⌝ }
 {
-    let number = header / 0x800_0000_0000 % 4;
     if number == 1 {
         return FrameType::Response;
     }
@@ -125,13 +149,13 @@ fn type_at(header: u64) -> FrameType
     FrameType::Request
 }
 
-fn head_at(header: u64) -> Head
-    ensures { λ r. ⌜ r ≡ headAt header ⌝ }
+fn head_said(number: u64, long: u64, check: u8) -> Head
+    ensures { λ r. ⌜ r ≡ headSaid number long check ⌝ }
 {
     Head {
-        frame_type: type_at(header),
-        long: header / 0x400_0000_0000 % 2 == 1,
-        check: (header / 16 % 256) as u8,
+        frame_type: type_numbered(number),
+        is_long: long == 1,
+        check,
     }
 }
 
@@ -140,18 +164,19 @@ fn head_at(header: u64) -> Head
 pub(crate) fn state_at(header: u64) -> State
     ensures { λ r. ⌜ r ≡ stateAt header ⌝ }
 {
-    let phase = header / 0x2000_0000_0000 % 8;
-    let head = head_at(header);
-    let command = (header / 0x1000 % 256) as u8;
-    let expected = (header / 0x1000_0000 % 256) as u8;
-    let received = (header / 0x10_0000 % 256) as u8;
+    let phase = header % END / PHASE;
+    let check = (header % COMMAND / CHECK) as u8;
+    let head = head_said(header % PHASE / TYPE, header % TYPE / LONG, check);
+    let command = (header % RECEIVED / COMMAND) as u8;
+    let expected = (header % ADDRESS / EXPECTED) as u8;
+    let received = (header % EXPECTED / RECEIVED) as u8;
     if phase == 1 {
-        return State::Preamble((header / 0x80_0000_0000 % 8) as u8);
+        return State::Preamble((header % LONG / PREAMBLES) as u8);
     }
     if phase == 2 {
         return State::Address {
             head,
-            received: (header / 0x10_0000_0000 % 8) as u8,
+            received: (header % PREAMBLES / ADDRESS) as u8,
         };
     }
     if phase == 3 {
@@ -176,25 +201,4 @@ pub(crate) fn state_at(header: u64) -> State
         };
     }
     State::Hunting
-}
-
-// The header's six bytes, high byte first, as a number and back.
-pub(crate) fn header_from(b0: u8, b1: u8, b2: u8, b3: u8, b4: u8, b5: u8) -> u64
-    ensures { λ r. ⌜ r ≡ fromDigits 256 (b0 ∷ b1 ∷ b2 ∷ b3 ∷ b4 ∷ b5 ∷ []) ⌝ }
-{
-    let high = (b0 as u64 * 256 + b1 as u64) * 256 + b2 as u64;
-    ((high * 256 + b3 as u64) * 256 + b4 as u64) * 256 + b5 as u64
-}
-
-pub(crate) fn header_bytes(header: u64) -> [u8; 6]
-    ensures { λ r. ⌜ r ≡ digits 256 6 header ⌝ }
-{
-    [
-        (header / 0x100_0000_0000 % 256) as u8,
-        (header / 0x1_0000_0000 % 256) as u8,
-        (header / 0x100_0000 % 256) as u8,
-        (header / 0x1_0000 % 256) as u8,
-        (header / 0x100 % 256) as u8,
-        (header % 256) as u8,
-    ]
 }

@@ -1,6 +1,6 @@
 // The two calls. Each takes a block of any length and content, and a refused one writes nothing.
+use crate::block_header::HEADER_SIZE;
 use crate::load::BLOCK_SIZE;
-use crate::load::HEADER_SIZE;
 use crate::load::load;
 use crate::load::store_state;
 use crate::records::RECORD_ROOM;
@@ -17,9 +17,9 @@ ghost use Rattle.host.specs.Record.{recordRoom};
 ghost use Rattle.host.specs.Block.{headerSize, blockSize, tells, recorded, fedBlock, clears, clearedBlock};
 
 // 1000 and the number of the refusal: BadState is 8, BufferTooSmall 2.
-const BAD_STATE: u32 = 1008;
+const BAD_STATE: u32 = 1000 + 8;
 
-const NO_ROOM: u32 = 1002;
+const NO_ROOM: u32 = 1000 + 2;
 
 // Makes a block hold a new decoder, whatever it held.
 pub fn clear_block(block: &mut [u8]) -> u32

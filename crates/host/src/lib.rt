@@ -7,3 +7,5 @@ mod records;
 
 pub use feed::clear_block;
 pub use feed::feed_block;
+pub use load::BLOCK_SIZE;
+pub use records::RECORD_ROOM;

@@ -13,6 +13,7 @@ use Rattle.types.specs.declared.delimiter.FrameType.{FrameType}
 use Rattle.types.specs.declared.address.Address.{Address}
 use Rattle.types.specs.Address.{isLong}
 use Rattle.types.proofs.Addresses.{length-address}
+use Rattle.line.specs.Layout.{mostData}
 use Rattle.line.specs.Encode.{wireOf, layout, total, encoded, Whole}
 use Rattle.line.proofs.Layouts.{length-frame}
 
@@ -34,7 +35,7 @@ module _ (t : FrameType) (a : Address) (c : ℕ) (ds : List ℕ) (n : ℕ) (buff
   -- a call that is refused has written nothing
   pub encoded-untouched : (number : ℕ) (values after : List ℕ) → encoded t a c ds n buffer ≡ ends (refused number values) after → after ≡ buffer
   unfolding encoded
-  encoded-untouched number values after = either (after ≡ buffer) (ltb 255 (length ds)) (λ _ f. kept f) (λ _. either (after ≡ buffer) (ltb (length buffer) (total n (isLong a) (length ds))) (λ _ f. kept f) (λ _ f. never f))
+  encoded-untouched number values after = either (after ≡ buffer) (ltb mostData (length ds)) (λ _ f. kept f) (λ _. either (after ≡ buffer) (ltb (length buffer) (total n (isLong a) (length ds))) (λ _ f. kept f) (λ _ f. never f))
     where
       kept : {k : ℕ} → refuses k [] buffer ≡ ends (refused number values) after → after ≡ buffer
       kept f = cc
@@ -47,9 +48,9 @@ module _ (t : FrameType) (a : Address) (c : ℕ) (ds : List ℕ) (n : ℕ) (buff
   pub encoded-whole : (count : ℕ) (after : List ℕ) → encoded t a c ds n buffer ≡ ends (done (count ∷ [])) after → Whole t a c ds n buffer count after
   unfolding encoded
   encoded-whole count after =
-      either (Whole t a c ds n buffer count after) (ltb 255 (length ds)) (λ _ f. never f)
+      either (Whole t a c ds n buffer count after) (ltb mostData (length ds)) (λ _ f. never f)
       (λ p. either (Whole t a c ds n buffer count after) (ltb (length buffer) size) (λ _ f. never f)
-      (λ q f. done-whole (ltb-false 255 (length ds) p) (ltb-false (length buffer) size q) refl refl f))
+      (λ q f. done-whole (ltb-false mostData (length ds) p) (ltb-false (length buffer) size q) refl refl f))
     where
       size : ℕ
       size = total n (isLong a) (length ds)
@@ -58,7 +59,7 @@ module _ (t : FrameType) (a : Address) (c : ℕ) (ds : List ℕ) (n : ℕ) (buff
       frame = layout n (wireOf t a c ds)
 
       -- a count and bytes that are those of the frame
-      done-whole : {written : ℕ} {bytes : List ℕ} → length ds ≤ 255 → size ≤ length buffer → written ≡ length frame → bytes ≡ frame ++ drop (length frame) buffer → ends (done (written ∷ [])) bytes ≡ ends (done (count ∷ [])) after → Whole t a c ds n buffer count after
+      done-whole : {written : ℕ} {bytes : List ℕ} → length ds ≤ mostData → size ≤ length buffer → written ≡ length frame → bytes ≡ frame ++ drop (length frame) buffer → ends (done (written ∷ [])) bytes ≡ ends (done (count ∷ [])) after → Whole t a c ds n buffer count after
       done-whole h k x y f =
           let m : count ≡ length frame = cc in
           let b : after ≡ frame ++ drop (length frame) buffer = cc in
@@ -75,14 +76,14 @@ module _ (t : FrameType) (a : Address) (c : ℕ) (ds : List ℕ) (n : ℕ) (buff
       never f = let z : _≡_ {A = ℕ} 0 1 = cc in absurd (omega arith)
 
   -- what a call comes to, case by case
-  pub encoded-long : 255 < length ds → encoded t a c ds n buffer ≡ refuses 1 [] buffer
+  pub encoded-long : mostData < length ds → encoded t a c ds n buffer ≡ refuses 1 [] buffer
   unfolding encoded
-  encoded-long h = rw (lt-ltb 255 (length ds) h)
+  encoded-long h = rw (lt-ltb mostData (length ds) h)
 
-  pub encoded-small : length ds ≤ 255 → length buffer < total n (isLong a) (length ds) → encoded t a c ds n buffer ≡ refuses 2 [] buffer
+  pub encoded-small : length ds ≤ mostData → length buffer < total n (isLong a) (length ds) → encoded t a c ds n buffer ≡ refuses 2 [] buffer
   unfolding encoded
-  encoded-small h k = rw (le-ltb 255 (length ds) h, lt-ltb (length buffer) (total n (isLong a) (length ds)) k)
+  encoded-small h k = rw (le-ltb mostData (length ds) h, lt-ltb (length buffer) (total n (isLong a) (length ds)) k)
 
-  pub encoded-fits : length ds ≤ 255 → total n (isLong a) (length ds) ≤ length buffer → encoded t a c ds n buffer ≡ wrote (layout n (wireOf t a c ds)) buffer
+  pub encoded-fits : length ds ≤ mostData → total n (isLong a) (length ds) ≤ length buffer → encoded t a c ds n buffer ≡ wrote (layout n (wireOf t a c ds)) buffer
   unfolding encoded
-  encoded-fits h k = rw (le-ltb 255 (length ds) h, le-ltb (length buffer) (total n (isLong a) (length ds)) k)
+  encoded-fits h k = rw (le-ltb mostData (length ds) h, le-ltb (length buffer) (total n (isLong a) (length ds)) k)

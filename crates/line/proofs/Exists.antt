@@ -15,8 +15,9 @@ use Rattle.octets.proofs.Check.{check-below}
 use Rattle.types.specs.declared.delimiter.Delimiter.{Delimiter}
 use Rattle.types.specs.declared.delimiter.Delimiter.the-variants.{Known, Unknown}
 use Rattle.types.specs.Delimiter.{delimiter, delimiterOf}
-use Rattle.types.specs.Address.{addressLength}
+use Rattle.types.specs.Address.{headLength}
 use Rattle.types.proofs.Delimiters.{Right, delimiter-right, delimiter-small}
+use Rattle.types.proofs.Addresses.{head-some}
 use Rattle.line.specs.Layout.{Wire, Fits, preambles, body, checkOf}
 use Rattle.line.specs.Pieces.{
   Piece,
@@ -25,6 +26,7 @@ use Rattle.line.specs.Pieces.{
   badDelimiter,
   frame,
   badCheck,
+  enough,
   Holds,
   bytesOf,
   Bytes,
@@ -56,7 +58,7 @@ use Rattle.line.proofs.Scan.{
   Sized,
   Fine,
 }
-use Rattle.line.proofs.Steps.{steps-ends, address-some, held-steps}
+use Rattle.line.proofs.Steps.{steps-ends, held-steps}
 use Rattle.line.proofs.Bytes.{bytes-append, bytes-right, bytes-replicate, one-more}
 
 abbrev bytesOut : Option Piece → List ℕ
@@ -74,51 +76,51 @@ record Sound (s : Scan) (b : ℕ) (r : Scan × Option Piece) : Type 0 where
   kept : bytesOut (r .1) ++ held (r .0) ≡ held s ++ (b ∷ [])
 
 -- bytes behind the address
-behind : (d : ℕ) (ad xs ys : List ℕ) → d ∷ (ad ++ (xs ++ ys)) ≡ (d ∷ (ad ++ xs)) ++ ys
-behind d ad xs ys = ap (λ (bs : List ℕ). d ∷ bs) (sym (append-assoc ad xs ys))
+behind : (d : ℕ) (hs xs ys : List ℕ) → d ∷ (hs ++ (xs ++ ys)) ≡ (d ∷ (hs ++ xs)) ++ ys
+behind d hs xs ys = ap (λ (bs : List ℕ). d ∷ bs) (sym (append-assoc hs xs ys))
 
 -- inside a frame
-module _ (n b : ℕ) (enough : 5 ≤ n) (small : b < 256) where
+module _ (n b : ℕ) (many : enough ≤ n) (small : b < 256) where
   sound-on : (p q : Phase) → Bytes (opened p) → Sized q → opened q ≡ opened p ++ (b ∷ []) → Sound (within n p) b (within n q, none)
   sound-on p q k z e =
       record {
-        fine = (enough, z, subst Bytes (sym e) (bytes-append (opened p) (b ∷ []) k (small, tt)));
+        fine = (many, z, subst Bytes (sym e) (bytes-append (opened p) (b ∷ []) k (small, tt)));
         out = tt;
         kept = rw e (sym (append-assoc (preambles n) (opened p) (b ∷ [])));
       }
 
   sound-within : (p : Phase) → Sized p → Bytes (opened p) → Sound (within n p) b (scanWithin n p b)
   unfolding scanWithin
-  sound-within (addressing t l ad) z k =
-      one-more (λ (s : Scan). Sound (within n (addressing t l ad)) b (s, none)) ad b (addressLength l)
-      (within n (commanding t l (ad ++ (b ∷ [])))) (within n (addressing t l (ad ++ (b ∷ [])))) z
-      (λ full. sound-on (addressing t l ad) (commanding t l (ad ++ (b ∷ []))) k full refl)
-      (λ short. sound-on (addressing t l ad) (addressing t l (ad ++ (b ∷ []))) k short refl)
-  sound-within (commanding t l ad) z k = sound-on (commanding t l ad) (counting t l ad b) k z refl
-  sound-within (counting t l ad c) z k = by (eqb 0 b) refl
+  sound-within (addressing o hs) z k =
+      one-more (λ (s : Scan). Sound (within n (addressing o hs)) b (s, none)) hs b (headLength o)
+      (within n (commanding o (hs ++ (b ∷ [])))) (within n (addressing o (hs ++ (b ∷ [])))) z
+      (λ full. sound-on (addressing o hs) (commanding o (hs ++ (b ∷ []))) k full refl)
+      (λ short. sound-on (addressing o hs) (addressing o (hs ++ (b ∷ []))) k short refl)
+  sound-within (commanding o hs) z k = sound-on (commanding o hs) (counting o hs b) k z refl
+  sound-within (counting o hs c) z k = by (eqb 0 b) refl
     where
-      by : (y : Bool) → eqb 0 b ≡ y → Sound (within n (counting t l ad c)) b (cond y (within n (checking (wire t l ad c []))) (within n (loading t l ad c b [])), none)
+      by : (y : Bool) → eqb 0 b ≡ y → Sound (within n (counting o hs c)) b (cond y (within n (checking (wire o hs c []))) (within n (loading o hs c b [])), none)
       by true e =
-          sound-on (counting t l ad c) (checking (wire t l ad c [])) k (record { addressFits = z; countFits = omega arith })
-          (rw (sym (eqb-true 0 b e)) (behind (delimiter t l) ad (c ∷ []) (0 ∷ [])))
+          sound-on (counting o hs c) (checking (wire o hs c [])) k (record { headingFits = z; countFits = omega arith })
+          (rw (sym (eqb-true 0 b e)) (behind (delimiter o) hs (c ∷ []) (0 ∷ [])))
       by false e =
-          sound-on (counting t l ad c) (loading t l ad c b []) k (z, omega (arith, eqb-false 0 b e)) (behind (delimiter t l) ad (c ∷ []) (b ∷ []))
-  sound-within (loading t l ad c m ds) z k =
-      let count-small : m < 256 = bytes-right ad (c ∷ m ∷ ds) (k .1) .1 .0 in
-      one-more (λ (s : Scan). Sound (within n (loading t l ad c m ds)) b (s, none)) ds b m
-      (within n (checking (wire t l ad c (ds ++ (b ∷ []))))) (within n (loading t l ad c m (ds ++ (b ∷ [])))) (z .1)
-      (λ full. sound-on (loading t l ad c m ds) (checking (wire t l ad c (ds ++ (b ∷ [])))) k (record { addressFits = z .0; countFits = omega (arith, full, count-small) })
-      (ap (λ (j : ℕ). delimiter t l ∷ (ad ++ (c ∷ j ∷ (ds ++ (b ∷ []))))) full ∙ behind (delimiter t l) ad (c ∷ m ∷ ds) (b ∷ [])))
-      (λ short. sound-on (loading t l ad c m ds) (loading t l ad c m (ds ++ (b ∷ []))) k (z .0, short) (behind (delimiter t l) ad (c ∷ m ∷ ds) (b ∷ [])))
+          sound-on (counting o hs c) (loading o hs c b []) k (z, omega (arith, eqb-false 0 b e)) (behind (delimiter o) hs (c ∷ []) (b ∷ []))
+  sound-within (loading o hs c m ds) z k =
+      let count-small : m < 256 = bytes-right hs (c ∷ m ∷ ds) (k .1) .1 .0 in
+      one-more (λ (s : Scan). Sound (within n (loading o hs c m ds)) b (s, none)) ds b m
+      (within n (checking (wire o hs c (ds ++ (b ∷ []))))) (within n (loading o hs c m (ds ++ (b ∷ [])))) (z .1)
+      (λ full. sound-on (loading o hs c m ds) (checking (wire o hs c (ds ++ (b ∷ [])))) k (record { headingFits = z .0; countFits = omega (arith, full, count-small) })
+      (ap (λ (j : ℕ). delimiter o ∷ (hs ++ (c ∷ j ∷ (ds ++ (b ∷ []))))) full ∙ behind (delimiter o) hs (c ∷ m ∷ ds) (b ∷ [])))
+      (λ short. sound-on (loading o hs c m ds) (loading o hs c m (ds ++ (b ∷ []))) k (z .0, short) (behind (delimiter o) hs (c ∷ m ∷ ds) (b ∷ [])))
   sound-within (checking w) z k = by (eqb b (checkOf w)) refl
     where
       by : (y : Bool) → eqb b (checkOf w) ≡ y → Sound (within n (checking w)) b (hunt, some (cond y (frame n w) (badCheck n w b)))
-      by true e = record { fine = tt; out = (enough, z); kept = append-nil (bytesOf (frame n w)) ∙ rw (sym (eqb-true b (checkOf w) e)) }
-      by false e = record { fine = tt; out = (enough, z, eqb-false b (checkOf w) e); kept = append-nil (bytesOf (badCheck n w b)) }
+      by true e = record { fine = tt; out = (many, z); kept = append-nil (bytesOf (frame n w)) ∙ rw (sym (eqb-true b (checkOf w) e)) }
+      by false e = record { fine = tt; out = (many, z, eqb-false b (checkOf w) e); kept = append-nil (bytesOf (badCheck n w b)) }
 
-sound-enter : (n b : ℕ) → 5 ≤ n → b < 256 → b ≢ 0xFF → (d : Delimiter) → Right b d → Sound (pre n) b (scanEnter n b d)
-sound-enter n b h k other (Known t l) q =
-    record { fine = (h, address-some l, (rw (sym q) k, tt)); out = tt; kept = ap (λ (d : ℕ). preambles n ++ (d ∷ [])) (sym q) }
+sound-enter : (n b : ℕ) → enough ≤ n → b < 256 → b ≢ 0xFF → (d : Delimiter) → Right b d → Sound (pre n) b (scanEnter n b d)
+sound-enter n b h k other (Known o) q =
+    record { fine = (h, head-some o, (rw (sym q) k, tt)); out = tt; kept = ap (λ (d : ℕ). preambles n ++ (d ∷ [])) (sym q) }
 sound-enter n b h k other Unknown q = record { fine = tt; out = (h, other, q); kept = append-nil (preambles n ++ (b ∷ [])) }
 
 preambles-snoc : (n : ℕ) → preambles (suc n) ≡ preambles n ++ (0xFF ∷ [])
@@ -134,13 +136,13 @@ sound hunt b f k = by (eqb b 0xFF) refl
     by false e = record { fine = tt; out = eqb-false b 0xFF e; kept = refl }
 sound (pre n) b f k = by (eqb b 0xFF) refl
   where
-    by′ : (y : Bool) → b ≢ 0xFF → leb 5 n ≡ y → Sound (pre n) b (cond y (scanEnter n b (delimiterOf b)) (hunt, some (shortRun n b)))
-    by′ true other e = sound-enter n b (leb-true 5 n e) k other (delimiterOf b) (delimiter-right b)
-    by′ false other e = record { fine = tt; out = (f, omega (arith, leb-false 5 n e), other); kept = append-nil (preambles n ++ (b ∷ [])) }
+    by′ : (y : Bool) → b ≢ 0xFF → leb enough n ≡ y → Sound (pre n) b (cond y (scanEnter n b (delimiterOf b)) (hunt, some (shortRun n b)))
+    by′ true other e = sound-enter n b (leb-true enough n e) k other (delimiterOf b) (delimiter-right b)
+    by′ false other e = record { fine = tt; out = (f, omega (arith, leb-false enough n e), other); kept = append-nil (preambles n ++ (b ∷ [])) }
 
-    by : (y : Bool) → eqb b 0xFF ≡ y → Sound (pre n) b (cond y (pre (suc n), none) (cond (leb 5 n) (scanEnter n b (delimiterOf b)) (hunt, some (shortRun n b))))
+    by : (y : Bool) → eqb b 0xFF ≡ y → Sound (pre n) b (cond y (pre (suc n), none) (cond (leb enough n) (scanEnter n b (delimiterOf b)) (hunt, some (shortRun n b))))
     by true e = record { fine = omega arith; out = tt; kept = rw (eqb-true b 0xFF e) (preambles-snoc n) }
-    by false e = by′ (leb 5 n) (eqb-false b 0xFF e) refl
+    by false e = by′ (leb enough n) (eqb-false b 0xFF e) refl
 sound (within n p) b f k = sound-within n b (f .0) k p (f .1) (f .2)
 
 pub fine-scan : (s : Scan) (b : ℕ) → Fine s → b < 256 → Fine ((scan s b) .0)
@@ -166,26 +168,26 @@ record Finish (p : Phase) : Type 0 where
   begins : body whole ≡ opened p ++ replicate noughts 0
 
 finish : (p : Phase) → Sized p → Bytes (opened p) → Finish p
-finish (addressing t l ad) z k =
-    let j : ℕ = addressLength l - length ad in
+finish (addressing o hs) z k =
+    let j : ℕ = headLength o - length hs in
     record {
-      whole = wire t l (ad ++ replicate j 0) 0 [];
-      fits = record { addressFits = length-append ad (replicate j 0) ∙ rw length-replicate (omega arith); countFits = omega arith };
+      whole = wire o (hs ++ replicate j 0) 0 [];
+      fits = record { headingFits = length-append hs (replicate j 0) ∙ rw length-replicate (omega arith); countFits = omega arith };
       noughts = j + 2;
-      begins = ap (λ (bs : List ℕ). delimiter t l ∷ bs) (append-assoc ad (replicate j 0) (0 ∷ 0 ∷ []) ∙ ap (λ (bs : List ℕ). ad ++ bs) (replicate-append-replicate j 2 0));
+      begins = ap (λ (bs : List ℕ). delimiter o ∷ bs) (append-assoc hs (replicate j 0) (0 ∷ 0 ∷ []) ∙ ap (λ (bs : List ℕ). hs ++ bs) (replicate-append-replicate j 2 0));
     }
-finish (commanding t l ad) z k = record { whole = wire t l ad 0 []; fits = record { addressFits = z; countFits = omega arith }; noughts = 2; begins = refl }
-finish (counting t l ad c) z k =
-    record { whole = wire t l ad c []; fits = record { addressFits = z; countFits = omega arith }; noughts = 1; begins = behind (delimiter t l) ad (c ∷ []) (0 ∷ []) }
-finish (loading t l ad c m ds) z k =
+finish (commanding o hs) z k = record { whole = wire o hs 0 []; fits = record { headingFits = z; countFits = omega arith }; noughts = 2; begins = refl }
+finish (counting o hs c) z k =
+    record { whole = wire o hs c []; fits = record { headingFits = z; countFits = omega arith }; noughts = 1; begins = behind (delimiter o) hs (c ∷ []) (0 ∷ []) }
+finish (loading o hs c m ds) z k =
     let j : ℕ = m - length ds in
     let full : length (ds ++ replicate j 0) ≡ m = length-append ds (replicate j 0) ∙ rw length-replicate (omega arith) in
-    let count-small : m < 256 = bytes-right ad (c ∷ m ∷ ds) (k .1) .1 .0 in
+    let count-small : m < 256 = bytes-right hs (c ∷ m ∷ ds) (k .1) .1 .0 in
     record {
-      whole = wire t l ad c (ds ++ replicate j 0);
-      fits = record { addressFits = z .0; countFits = omega (arith, full, count-small) };
+      whole = wire o hs c (ds ++ replicate j 0);
+      fits = record { headingFits = z .0; countFits = omega (arith, full, count-small) };
       noughts = j;
-      begins = ap (λ (i : ℕ). delimiter t l ∷ (ad ++ (c ∷ i ∷ (ds ++ replicate j 0)))) full ∙ behind (delimiter t l) ad (c ∷ m ∷ ds) (replicate j 0);
+      begins = ap (λ (i : ℕ). delimiter o ∷ (hs ++ (c ∷ i ∷ (ds ++ replicate j 0)))) full ∙ behind (delimiter o) hs (c ∷ m ∷ ds) (replicate j 0);
     }
 finish (checking w) z k = record { whole = w; fits = z; noughts = 0; begins = sym (append-nil (body w)) }
 
@@ -203,18 +205,18 @@ regroup a b c d = simp append-assoc
 -- what is held is nothing or a tail
 remains : (s : Scan) → Fine s → Rest (held s)
 remains hunt f = nothing
-remains (pre n) f = tail (by (decLe n 4))
+remains (pre n) f = tail (by (decLe enough n))
   where
     nonempty′ : preambles n ≢ []
     nonempty′ = rw append-nil at (begun n [] f)
 
-    by : Dec (n ≤ 4) → Tail (preambles n)
-    by (yes h) = record { nonempty = nonempty′; piece = shortRun n 0; holds = (f, h, omega arith); missing = 0 ∷ []; lacking = cons≢nil; small = (omega arith, tt); begins = refl }
-    by (no h) =
+    by : Dec (enough ≤ n) → Tail (preambles n)
+    by (no h) = record { nonempty = nonempty′; piece = shortRun n 0; holds = (f, omega (arith, h), omega arith); missing = 0 ∷ []; lacking = cons≢nil; small = (omega arith, tt); begins = refl }
+    by (yes h) =
         record {
           nonempty = nonempty′;
           piece = badDelimiter n 0;
-          holds = (omega arith, omega arith, λ t l. omega (arith, delimiter-small t l));
+          holds = (h, omega arith, λ o. omega (arith, delimiter-small o));
           missing = 0 ∷ [];
           lacking = cons≢nil;
           small = (omega arith, tt);

@@ -2,18 +2,20 @@
 use Prim.Native.Nat.{ℕ, zero, suc, _+_, _≤_, _<_}
 use native.Mathlib.Omega.{arith}
 use mathlib.Core.Path.{_≡_, refl, _∙_}
-use mathlib.Core.Bool.{Bool, true, false, cond}
+use mathlib.Core.Bool.{cond}
 use mathlib.Core.Option.{none}
 use mathlib.Core.List.{List, [], _∷_, _++_, append-nil}
 use lib.ListN.{length, length-append}
 use lib.Seq.{append-snoc}
 use lib.Dec.{eqb}
 use borrow.Author.Tests.{eq-eqb, ne-eqb, le-leb}
-use Rattle.types.specs.declared.delimiter.FrameType.{FrameType}
+use Rattle.types.specs.declared.delimiter.Opening.{Opening}
 use Rattle.types.specs.Delimiter.{delimiter}
-use Rattle.types.specs.Address.{addressLength}
+use Rattle.types.specs.Address.{headLength}
 use Rattle.types.proofs.Delimiters.{delimiter-back, delimiter-small}
+use Rattle.types.proofs.Addresses.{head-some}
 use Rattle.line.specs.Layout.{Wire, Fits, preambles, body}
+use Rattle.line.specs.Pieces.{enough}
 use Rattle.line.specs.Runs.{endsIn}
 use Rattle.line.proofs.Scan.{
   Phase,
@@ -61,10 +63,6 @@ unfolding scan
 to-preambles zero h = absurd (omega arith)
 to-preambles (suc j) h = go refl (more-preambles j 1 (suc j) (omega arith))
 
-pub address-some : (l : Bool) → 0 < addressLength l
-address-some false = omega arith
-address-some true = omega arith
-
 -- bytes of a known number m: K while some are missing, D with the last
 module _ (n m : ℕ) (K D : List ℕ → Phase)
     (adds : (b : ℕ) (xs : List ℕ) → scan (within n (K xs)) b ≡ (cond (eqb (length (xs ++ (b ∷ []))) m) (within n (D (xs ++ (b ∷ [])))) (within n (K (xs ++ (b ∷ [])))), none)) where
@@ -83,55 +81,55 @@ module _ (n m : ℕ) (K D : List ℕ → Phase)
       (rw append-snoc at (collect-some (xs ++ (b ∷ [])) bs (rw length-append (omega arith))))
 
 -- from the delimiter on
-module _ (n : ℕ) (enough : 5 ≤ n) (t : FrameType) (l : Bool) where
-  opens : scan (pre n) (delimiter t l) ≡ (within n (addressing t l []), none)
+module _ (n : ℕ) (many : enough ≤ n) (o : Opening) where
+  opens : scan (pre n) (delimiter o) ≡ (within n (addressing o []), none)
   unfolding scan
-  opens = rw (ne-eqb (delimiter t l) 0xFF (omega (arith, delimiter-small t l)), le-leb 5 n enough, delimiter-back)
+  opens = rw (ne-eqb (delimiter o) 0xFF (omega (arith, delimiter-small o)), le-leb enough n many, delimiter-back)
 
-  opening : {s : Scan} {bs : List ℕ} → Steps (within n (addressing t l [])) bs s → Steps hunt (preambles n ++ (delimiter t l ∷ bs)) s
+  opening : {s : Scan} {bs : List ℕ} → Steps (within n (addressing o [])) bs s → Steps hunt (preambles n ++ (delimiter o ∷ bs)) s
   opening q = steps-append (to-preambles n (omega arith)) (go opens q)
 
-  to-addressing : (ad : List ℕ) → length ad < addressLength l → Steps hunt (preambles n ++ (delimiter t l ∷ ad)) (within n (addressing t l ad))
+  to-addressing : (hs : List ℕ) → length hs < headLength o → Steps hunt (preambles n ++ (delimiter o ∷ hs)) (within n (addressing o hs))
   unfolding scan scanWithin
-  to-addressing ad h = opening (collect-some n (addressLength l) (addressing t l) (commanding t l) (λ b xs. refl) [] ad (omega arith))
+  to-addressing hs h = opening (collect-some n (headLength o) (addressing o) (commanding o) (λ b xs. refl) [] hs (omega arith))
 
-  addresses : (ad : List ℕ) → length ad ≡ addressLength l → Steps (within n (addressing t l [])) ad (within n (commanding t l ad))
+  addresses : (hs : List ℕ) → length hs ≡ headLength o → Steps (within n (addressing o [])) hs (within n (commanding o hs))
   unfolding scan scanWithin
-  addresses [] e = absurd (omega (arith, address-some l))
-  addresses (b ∷ bs) e = collect n (addressLength l) (addressing t l) (commanding t l) (λ c xs. refl) b [] bs (omega arith)
+  addresses [] e = absurd (omega (arith, head-some o))
+  addresses (b ∷ bs) e = collect n (headLength o) (addressing o) (commanding o) (λ c xs. refl) b [] bs (omega arith)
 
   -- behind the address
-  module _ (ad : List ℕ) (addressed : length ad ≡ addressLength l) (c : ℕ) where
-    commands : Steps (within n (addressing t l [])) (ad ++ (c ∷ [])) (within n (counting t l ad c))
+  module _ (hs : List ℕ) (addressed : length hs ≡ headLength o) (c : ℕ) where
+    commands : Steps (within n (addressing o [])) (hs ++ (c ∷ [])) (within n (counting o hs c))
     unfolding scan scanWithin
-    commands = steps-append (addresses ad addressed) (go refl stay)
+    commands = steps-append (addresses hs addressed) (go refl stay)
 
-    loads : (ds : List ℕ) → Steps (within n (counting t l ad c)) (length ds ∷ ds) (within n (checking (wire t l ad c ds)))
+    loads : (ds : List ℕ) → Steps (within n (counting o hs c)) (length ds ∷ ds) (within n (checking (wire o hs c ds)))
     unfolding scan scanWithin
     loads [] = go refl stay
     loads (d ∷ ds) =
         let m : ℕ = suc (length ds) in
-        via (within n (loading t l ad c m [])) (rw (ne-eqb 0 m (omega arith)))
-        (collect n m (loading t l ad c m) (λ es. checking (wire t l ad c es)) (λ b es. refl) d [] ds (omega arith))
+        via (within n (loading o hs c m [])) (rw (ne-eqb 0 m (omega arith)))
+        (collect n m (loading o hs c m) (λ es. checking (wire o hs c es)) (λ b es. refl) d [] ds (omega arith))
 
-    loads-some : (e : ℕ) (ds : List ℕ) → length ds < e → Steps (within n (counting t l ad c)) (e ∷ ds) (within n (loading t l ad c e ds))
+    loads-some : (e : ℕ) (ds : List ℕ) → length ds < e → Steps (within n (counting o hs c)) (e ∷ ds) (within n (loading o hs c e ds))
     unfolding scan scanWithin
     loads-some e ds h =
-        via (within n (loading t l ad c e [])) (rw (ne-eqb 0 e (omega arith)))
-        (collect-some n e (loading t l ad c e) (λ es. checking (wire t l ad c es)) (λ b es. refl) [] ds (omega arith))
+        via (within n (loading o hs c e [])) (rw (ne-eqb 0 e (omega arith)))
+        (collect-some n e (loading o hs c e) (λ es. checking (wire o hs c es)) (λ b es. refl) [] ds (omega arith))
 
-    past-count : {s : Scan} {e : ℕ} {ds : List ℕ} → Steps (within n (counting t l ad c)) (e ∷ ds) s → Steps hunt (preambles n ++ (delimiter t l ∷ (ad ++ (c ∷ e ∷ ds)))) s
+    past-count : {s : Scan} {e : ℕ} {ds : List ℕ} → Steps (within n (counting o hs c)) (e ∷ ds) s → Steps hunt (preambles n ++ (delimiter o ∷ (hs ++ (c ∷ e ∷ ds)))) s
     past-count q = opening (rw append-snoc at (steps-append commands q))
 
-pub to-ready : (n : ℕ) (w : Wire) → 5 ≤ n → Fits w → Steps hunt (preambles n ++ body w) (within n (checking w))
+pub to-ready : (n : ℕ) (w : Wire) → enough ≤ n → Fits w → Steps hunt (preambles n ++ body w) (within n (checking w))
 to-ready n w h f =
-    past-count n h (w .frameType) (w .long) (w .address) (f .addressFits) (w .command) (loads n h (w .frameType) (w .long) (w .address) (f .addressFits) (w .command) (w .payload))
+    past-count n h (w .opening) (w .heading) (f .headingFits) (w .command) (loads n h (w .opening) (w .heading) (f .headingFits) (w .command) (w .payload))
 
-phase-steps : (n : ℕ) (p : Phase) → 5 ≤ n → Sized p → Steps hunt (preambles n ++ opened p) (within n p)
-phase-steps n (addressing t l ad) h z = to-addressing n h t l ad z
-phase-steps n (commanding t l ad) h z = opening n h t l (addresses n h t l ad z)
-phase-steps n (counting t l ad c) h z = opening n h t l (commands n h t l ad z c)
-phase-steps n (loading t l ad c e ds) h z = past-count n h t l ad (z .0) c (loads-some n h t l ad (z .0) c e ds (z .1))
+phase-steps : (n : ℕ) (p : Phase) → enough ≤ n → Sized p → Steps hunt (preambles n ++ opened p) (within n p)
+phase-steps n (addressing o hs) h z = to-addressing n h o hs z
+phase-steps n (commanding o hs) h z = opening n h o (addresses n h o hs z)
+phase-steps n (counting o hs c) h z = opening n h o (commands n h o hs z c)
+phase-steps n (loading o hs c e ds) h z = past-count n h o hs (z .0) c (loads-some n h o hs (z .0) c e ds (z .1))
 phase-steps n (checking w) h z = to-ready n w h z
 
 -- a fine state is reached by the bytes it holds

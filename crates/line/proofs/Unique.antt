@@ -27,6 +27,7 @@ use Rattle.line.specs.Pieces.{
   badDelimiter,
   frame,
   badCheck,
+  enough,
   front,
   last,
   Holds,
@@ -52,12 +53,12 @@ pub passes : (p : Piece) → Holds p → Passes p
 unfolding scan scanWithin
 passes (noise b) h = record { before = hunt; along = stay; scans = rw (ne-eqb b 0xFF h) }
 passes (shortRun n b) h =
-    record { before = pre n; along = to-preambles n (h .0); scans = rw (ne-eqb b 0xFF (h .2), lt-leb 5 n (omega arith)) }
+    record { before = pre n; along = to-preambles n (h .0); scans = rw (ne-eqb b 0xFF (h .2), lt-leb enough n (omega arith)) }
 passes (badDelimiter n b) h =
     record {
       before = pre n;
       along = to-preambles n (omega arith);
-      scans = rw (ne-eqb b 0xFF (h .1), le-leb 5 n (h .0), delimiter-unknown b (h .2));
+      scans = rw (ne-eqb b 0xFF (h .1), le-leb enough n (h .0), delimiter-unknown b (h .2));
     }
 passes (frame n w) h =
     record { before = within n (checking w); along = to-ready n w (h .0) (h .1); scans = rw (eq-eqb (checkOf w) (checkOf w) refl) }

@@ -1,11 +1,10 @@
 -- Document 01, 'How a run of bytes is cut': the five pieces, the tail, and a cut of a run. No machine is spoken of here.
-use Prim.Native.Nat.{ℕ, _≤_}
+use Prim.Native.Nat.{ℕ, _≤_, _<_}
 use mathlib.Core.Path.{_≡_}
 use mathlib.Core.Logic.{_≢_}
-use mathlib.Core.Bool.{Bool}
 use mathlib.Core.List.{List, [], _∷_, _++_}
 use Rattle.octets.specs.Digits.{Below}
-use Rattle.types.specs.declared.delimiter.FrameType.{FrameType}
+use Rattle.types.specs.declared.delimiter.Opening.{Opening}
 use Rattle.types.specs.Delimiter.{delimiter}
 use Rattle.line.specs.Layout.{Wire, Fits, preambles, body, checkOf}
 
@@ -17,14 +16,18 @@ pub data Piece : Type 0 where
   frame : ℕ → Wire → Piece
   badCheck : ℕ → Wire → ℕ → Piece
 
+-- so many FF make a preamble
+abbrev pub enough : ℕ
+enough = 5
+
 -- Noise is a byte that is no FF. A short run has too few FF before such a byte to make a preamble. Behind a preamble of five FF at least, a
 -- byte that opens no frame is a bad delimiter, and what opens one is a frame if it ends in its own check, and a bad check if not.
 abbrev pub Holds : Piece → Type 0
 Holds (noise b) = b ≢ 0xFF
-Holds (shortRun n b) = (1 ≤ n) × (n ≤ 4) × (b ≢ 0xFF)
-Holds (badDelimiter n b) = (5 ≤ n) × (b ≢ 0xFF) × ((t : FrameType) (long : Bool) → b ≢ delimiter t long)
-Holds (frame n w) = (5 ≤ n) × Fits w
-Holds (badCheck n w c) = (5 ≤ n) × Fits w × (c ≢ checkOf w)
+Holds (shortRun n b) = (1 ≤ n) × (n < enough) × (b ≢ 0xFF)
+Holds (badDelimiter n b) = (enough ≤ n) × (b ≢ 0xFF) × ((o : Opening) → b ≢ delimiter o)
+Holds (frame n w) = (enough ≤ n) × Fits w
+Holds (badCheck n w c) = (enough ≤ n) × Fits w × (c ≢ checkOf w)
 
 -- the bytes of a piece: all but the last, and the last
 abbrev pub front : Piece → List ℕ

@@ -1,9 +1,8 @@
 -- Each example of the list of specs/Paper.antt comes out as document 01 says: one statement over the list. Text and frames that are written
 -- are computed as they stand; what a decoder hears is computed through the law that it hears what the scanner of the crate line gives.
-use Prim.Native.Nat.{ℕ}
 use mathlib.Core.Path.{_≡_, refl, ap, ap₂, _∙_}
 use mathlib.Core.Bool.{true}
-use mathlib.Core.List.{List, [], _∷_, _++_, map}
+use mathlib.Core.List.{List, _∷_, _++_, map}
 use lib.ListN.{replicate}
 use Rattle.octets.specs.Put.{firstParts}
 use Rattle.packed_string.specs.Group.{packGroup, unpackGroup}

@@ -12,13 +12,13 @@ use crate::text::put_refusal;
 use commands::DeviceIdentity;
 use commands::IdentityRead;
 use commands::Mode;
+use commands::TagDescriptorDate;
 use commands::read_device_vars;
 use commands::read_device_vars::DeviceVariable;
 use commands::read_device_vars::MAX_DEVICE_VARS;
 use commands::read_device_vars::ReadDeviceVarsResponse;
 use commands::read_unique_id_by_tag;
 use commands::write_tag_descriptor_date;
-use commands::write_tag_descriptor_date::WriteTagDescriptorDateResponse;
 use framing::PayloadVerdict;
 use octets::encode_u16_be;
 use types::Address;
@@ -149,11 +149,7 @@ pub(crate) fn read_tag(mode: Mode, bytes: &[u8], out: &mut [u8; OUT_SIZE], at: u
     put_bytes(&tag, out, at)
 }
 
-fn put_fields(
-    response: WriteTagDescriptorDateResponse,
-    out: &mut [u8; OUT_SIZE],
-    at: usize,
-) -> usize {
+fn put_fields(response: TagDescriptorDate, out: &mut [u8; OUT_SIZE], at: usize) -> usize {
     let tag = response.tag;
     let descriptor = response.descriptor;
     let tagged = put_bytes(&tag, out, at);
@@ -165,11 +161,7 @@ fn put_fields(
     )
 }
 
-pub(crate) fn put_date(
-    response: WriteTagDescriptorDateResponse,
-    out: &mut [u8; OUT_SIZE],
-    at: usize,
-) -> usize {
+pub(crate) fn put_date(response: TagDescriptorDate, out: &mut [u8; OUT_SIZE], at: usize) -> usize {
     let verdict = response.verdict;
     if let PayloadVerdict::Refused(refusal) = verdict {
         return put_refusal(refusal, out, at);

@@ -38,7 +38,7 @@ fn state_of(phase: u8, head: Head, count: u8, command: u8, expected: u8) -> Stat
 fn state_in(bytes: &[u8]) -> State {
     let head = Head {
         frame_type: frame_type_of(byte_at(bytes, 1)),
-        long: byte_at(bytes, 2) == 1,
+        is_long: byte_at(bytes, 2) == 1,
         check: byte_at(bytes, 3),
     };
     state_of(

@@ -7,7 +7,7 @@ use mathlib.Core.Bool.{Bool, true, false, cond}
 use mathlib.Core.List.{List, [], _∷_, _++_, append-nil}
 use lib.Dec.{lit<, lit≤}
 use lib.ListN.{length, getD, take, drop, length-append, length-drop}
-use lib.Seq.{getD-take, length-take-le}
+use lib.Seq.{getD-take, length-take-le, take-take}
 use borrow.Author.Tests.{eq-eqb, ne-eqb, lt-ltb, le-ltb}
 use borrow.Rule.Slice.PartMut.{midOf, putMid}
 use Rattle.refusal.specs.Outcome.{Reply, ends, wrote, refuses}
@@ -16,6 +16,7 @@ use Rattle.octets.specs.Digits.{Below}
 use Rattle.octets.specs.Put.{put}
 use Rattle.octets.proofs.Digits.{from-digits, digits-below}
 use Rattle.octets.proofs.Put.{lent-put}
+use Rattle.types.specs.declared.delimiter.Opening.{Opening}
 use Rattle.types.specs.declared.first.MasterRole.{MasterRole}
 use Rattle.types.specs.declared.first.MasterRole.the-variants.{Primary, Secondary}
 use Rattle.types.specs.First.{masterOf, masterBit, burstBit}
@@ -23,6 +24,8 @@ use Rattle.types.specs.declared.address.Address.{Address}
 use Rattle.types.specs.declared.address.Address.the-variants.{Short, Long}
 use Rattle.types.specs.Address.{
   addressLength,
+  headLength,
+  headRoom,
   readAddress,
   isLong,
   addressRead,
@@ -35,9 +38,20 @@ use Rattle.types.specs.Address.{
   Ranged,
 }
 
-pub address-length-le : (long : Bool) → addressLength long ≤ 5
+pub address-length-le : (long : Bool) → addressLength long ≤ addressLength true
 address-length-le false = lit≤ tt
 address-length-le true = lit≤ tt
+
+-- a frame has something between its delimiter and its command, and never more than there is room for
+pub head-some : (o : Opening) → 0 < headLength o
+head-some o = by (o .«is_long»)
+  where
+    by : (long : Bool) → 0 < addressLength long
+    by false = lit< tt
+    by true = lit< tt
+
+pub head-length-le : (o : Opening) → headLength o ≤ headRoom
+head-length-le o = address-length-le (o .«is_long»)
 
 pub master-bit-le : (m : MasterRole) → masterBit m ≤ 128
 master-bit-le Primary = lit≤ tt
@@ -144,14 +158,22 @@ address-back a h = ap (readAddress (isLong a)) (sym (append-nil (addressBytes a)
 
 -- reading looks at the first byte, or at all five
 pub read-taken : (long : Bool) (bs : List ℕ) → readAddress long bs ≡ readAddress long (take (addressLength long) bs)
-read-taken false bs = rw (getD-take 1 bs 0 0 (omega arith))
+read-taken false bs = rw (getD-take (addressLength false) bs 0 0 (omega arith))
 read-taken true bs =
-    rw (getD-take 5 bs 0 0 (omega arith), getD-take 5 bs 1 0 (omega arith), getD-take 5 bs 2 0 (omega arith), getD-take 5 bs 3 0 (omega arith), getD-take 5 bs 4 0 (omega arith))
+    let n = addressLength true in
+    rw (getD-take n bs 0 0 (omega arith), getD-take n bs 1 0 (omega arith), getD-take n bs 2 0 (omega arith), getD-take n bs 3 0 (omega arith), getD-take n bs 4 0 (omega arith))
 
 -- so five bytes that were taken out one by one will do
 pub address-taken : (long : Bool) (bs : List ℕ) → readAddress long (getD bs 0 0 ∷ getD bs 1 0 ∷ getD bs 2 0 ∷ getD bs 3 0 ∷ getD bs 4 0 ∷ []) ≡ readAddress long (take (addressLength long) bs)
 address-taken false bs = read-taken false bs
 address-taken true bs = read-taken true bs
+
+-- the address comes first of what stands between delimiter and command
+address-in-head : (o : Opening) → addressLength (o .«is_long») ≤ headLength o
+address-in-head o = omega arith
+
+pub address-first : (o : Opening) (bs : List ℕ) → take (addressLength (o .«is_long»)) (take (headLength o) bs) ≡ take (addressLength (o .«is_long»)) bs
+address-first o bs = take-take (addressLength (o .«is_long»)) (headLength o) bs (address-in-head o)
 
 pub long-read : (long : Bool) (bs : List ℕ) → isLong (readAddress long bs) ≡ long
 long-read false bs = refl

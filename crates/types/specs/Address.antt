@@ -9,6 +9,7 @@ use Rattle.refusal.specs.Outcome.{Outcome, wrote, refuses}
 use Rattle.octets.specs.Digits.{fromDigits, digits}
 use Rattle.octets.specs.Bit.{bit}
 use Rattle.types.specs.First.{masterOf, masterBit, burstBit}
+use Rattle.types.specs.declared.delimiter.Opening.{Opening}
 use Rattle.types.specs.declared.first.MasterRole.{MasterRole}
 use Rattle.types.specs.declared.address.Address.{Address}
 use Rattle.types.specs.declared.address.Address.the-variants.{Short, Long}
@@ -19,6 +20,13 @@ use Rattle.types.specs.declared.address.AddressRead.the-variants.{Read, 
 abbrev pub addressLength : Bool → ℕ
 addressLength false = 1
 addressLength true = 5
+
+-- bytes between the delimiter and the command: those of the address; and room for as many as any frame has there
+abbrev pub headLength : Opening → ℕ
+headLength o = addressLength (o .«is_long»)
+
+abbrev pub headRoom : ℕ
+headRoom = addressLength true
 
 -- bit 6 burst; the low 4 bits are the polling address, and bits 5 and 4 say nothing
 abbrev pub shortAddress : ℕ → Address

@@ -1,9 +1,11 @@
 -- Document 01, 'Wire layout': frame types, and the six delimiters.
-use Prim.Native.Nat.{ℕ}
-use mathlib.Core.Bool.{Bool, true, false, cond}
+use Prim.Native.Nat.{ℕ, _+_, _%_}
+use mathlib.Core.Bool.{Bool, cond}
 use lib.Dec.{eqb}
+use Rattle.octets.specs.Bit.{bit}
 use Rattle.types.specs.declared.delimiter.FrameType.{FrameType}
 use Rattle.types.specs.declared.delimiter.FrameType.the-variants.{Request, Response, Burst}
+use Rattle.types.specs.declared.delimiter.Opening.{Opening}
 use Rattle.types.specs.declared.delimiter.Delimiter.{Delimiter}
 use Rattle.types.specs.declared.delimiter.Delimiter.the-variants.{Known, Unknown}
 
@@ -13,22 +15,25 @@ typeNumber Request = 0
 typeNumber Response = 1
 typeNumber Burst = 2
 
--- of a frame's type, with a short or a long address
-abbrev pub delimiter : FrameType → Bool → ℕ
-delimiter Request false = 0x02
-delimiter Request true = 0x82
-delimiter Response false = 0x06
-delimiter Response true = 0x86
-delimiter Burst false = 0x01
-delimiter Burst true = 0x81
+abbrev pub opening : FrameType → Bool → Opening
+opening t long = record { «frame_type» = t; «is_long» = long }
 
--- the same, read: the laws in proofs/Delimiters.antt say that it finds these six and no other
+-- the delimiter of a frame with a short address; with a long one bit 7 is set: request 02 and 82, response 06 and 86, burst 01 and 81
+abbrev pub shortDelimiter : FrameType → ℕ
+shortDelimiter Request = 0x02
+shortDelimiter Response = 0x06
+shortDelimiter Burst = 0x01
+
+abbrev pub delimiter : Opening → ℕ
+delimiter o = cond (o .«is_long») 0x80 0 + shortDelimiter (o .«frame_type»)
+
+-- what a byte says if it is a delimiter
+abbrev pub delimiterType : ℕ → FrameType
+delimiterType b = cond (eqb (b % 8) 6) Response (cond (eqb (b % 8) 1) Burst Request)
+
+abbrev pub openingAt : ℕ → Opening
+openingAt b = opening (delimiterType b) (bit 7 b)
+
+-- and it is one if just this byte is made of what it says
 unfoldable pub delimiterOf : ℕ → Delimiter
-delimiterOf b =
-    cond (eqb b 0x02) (Known Request false)
-    (cond (eqb b 0x82) (Known Request true)
-    (cond (eqb b 0x06) (Known Response false)
-    (cond (eqb b 0x86) (Known Response true)
-    (cond (eqb b 0x01) (Known Burst false)
-    (cond (eqb b 0x81) (Known Burst true)
-    Unknown)))))
+delimiterOf b = cond (eqb (delimiter (openingAt b)) b) (Known (openingAt b)) Unknown

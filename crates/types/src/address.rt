@@ -1,6 +1,7 @@
 // Addresses: one byte or five on the line.
 use crate::consts::address::MANUFACTURER_ID_MASK;
 use crate::consts::address::SHORT_ADDRESS_MASK;
+use crate::delimiter::Opening;
 use crate::first::MasterRole;
 use crate::first::burst_bit;
 use crate::first::burst_of;
@@ -18,7 +19,14 @@ ghost use Prim.Native.Nat.{_≤_, _<_};
 ghost use lib.ListN.{length};
 ghost use Rattle.refusal.specs.Outcome.{ends, replyOf};
 ghost use Rattle.octets.specs.Put.{put};
-ghost use Rattle.types.specs.Address.{addressLength, shortAddress, readAddress, isLong, readOf, decoded, firstByte, longBytes, addressWritten};
+ghost use Rattle.types.specs.Address.{addressLength, headLength, shortAddress, readAddress, isLong, readOf, decoded, firstByte, longBytes, addressWritten};
+
+pub const SHORT_ADDRESS_LENGTH: usize = 1;
+
+pub const LONG_ADDRESS_LENGTH: usize = 5;
+
+// As many bytes as any frame has between its delimiter and its command.
+pub const HEAD_ROOM: usize = LONG_ADDRESS_LENGTH;
 
 pub enum Address {
     Short {
@@ -44,7 +52,18 @@ pub enum AddressRead {
 pub fn address_length(is_long: bool) -> u8
     ensures { λ r. ⌜ r ≡ addressLength «is_long» ⌝ }
 {
-    if is_long { 5 } else { 1 }
+    if is_long {
+        LONG_ADDRESS_LENGTH as u8
+    } else {
+        SHORT_ADDRESS_LENGTH as u8
+    }
+}
+
+// How many bytes stand between a delimiter and the command.
+pub fn head_length(opening: Opening) -> u8
+    ensures { λ r. ⌜ r ≡ headLength opening ⌝ }
+{
+    address_length(opening.is_long)
 }
 
 fn short_address(first: u8) -> Address
@@ -59,7 +78,7 @@ fn short_address(first: u8) -> Address
     }
 }
 
-fn long_address(bytes: [u8; 5]) -> Address
+fn long_address(bytes: [u8; LONG_ADDRESS_LENGTH]) -> Address
     ensures { λ r. ⌜ r ≡ readAddress true bytes ⌝ }
 {
     let first = bytes[0];
@@ -82,7 +101,7 @@ fn first_byte(master: MasterRole, burst: bool, low: u8) -> u8
 }
 
 fn write_long(first: u8, device_type: u8, device_id: u32, buf: &mut [u8])
-    requires { ⌜ 5 ≤ length (now buf) ⌝ }
+    requires { ⌜ addressLength true ≤ length (now buf) ⌝ }
     ensures { λ _. ⌜ now (buf .exit) ≡ put (now (buf .entry)) 0 (longBytes first «device_type» «device_id») ⌝ }
 {
     let number = encode_u24_be(device_id);
@@ -95,7 +114,7 @@ fn write_long(first: u8, device_type: u8, device_id: u32, buf: &mut [u8])
 
 impl Address {
     // Takes the first byte, or all five.
-    pub fn from_bytes(bytes: [u8; 5], is_long: bool) -> Address
+    pub fn from_bytes(bytes: [u8; LONG_ADDRESS_LENGTH], is_long: bool) -> Address
         ensures { λ r. ⌜ r ≡ readAddress «is_long» bytes ⌝ }
     {
         if is_long {
@@ -109,20 +128,20 @@ impl Address {
         ensures { λ r. ⌜ readOf r ≡ decoded «is_long» (now (buf .entry)) ⌝ }
     {
         if is_long {
-            if buf.len() < 5 {
+            if buf.len() < LONG_ADDRESS_LENGTH {
                 return AddressRead::Refused(Refusal::BufferTooShort);
             }
             return AddressRead::Read {
                 address: long_address([buf[0], buf[1], buf[2], buf[3], buf[4]]),
-                used: 5,
+                used: LONG_ADDRESS_LENGTH,
             };
         }
-        if buf.len() < 1 {
+        if buf.len() < SHORT_ADDRESS_LENGTH {
             return AddressRead::Refused(Refusal::BufferTooShort);
         }
         AddressRead::Read {
             address: short_address(buf[0]),
-            used: 1,
+            used: SHORT_ADDRESS_LENGTH,
         }
     }
 
@@ -136,11 +155,11 @@ impl Address {
                 burst,
                 poll_address,
             } => {
-                if buf.len() < 1 {
+                if buf.len() < SHORT_ADDRESS_LENGTH {
                     return Written::Refused(Refusal::BufferTooSmall);
                 }
                 buf[0] = first_byte(master, burst, poll_address & SHORT_ADDRESS_MASK);
-                Written::Count(1)
+                Written::Count(SHORT_ADDRESS_LENGTH)
             }
             Address::Long {
                 master,
@@ -149,12 +168,12 @@ impl Address {
                 device_type,
                 device_id,
             } => {
-                if buf.len() < 5 {
+                if buf.len() < LONG_ADDRESS_LENGTH {
                     return Written::Refused(Refusal::BufferTooSmall);
                 }
                 let first = first_byte(master, burst, manufacturer_id & MANUFACTURER_ID_MASK);
                 write_long(first, device_type, device_id, buf);
-                Written::Count(5)
+                Written::Count(LONG_ADDRESS_LENGTH)
             }
         }
     }

@@ -8,9 +8,14 @@ mod status;
 
 pub use address::Address;
 pub use address::AddressRead;
+pub use address::HEAD_ROOM;
+pub use address::LONG_ADDRESS_LENGTH;
+pub use address::SHORT_ADDRESS_LENGTH;
 pub use address::address_length;
+pub use address::head_length;
 pub use delimiter::Delimiter;
 pub use delimiter::FrameType;
+pub use delimiter::Opening;
 pub use delimiter::delimiter_byte;
 pub use delimiter::read_delimiter;
 pub use first::MasterRole;

@@ -6,20 +6,20 @@ use lib.ListN.{length, drop}
 use borrow.Author.Tests.{lt-ltb, le-ltb}
 use Rattle.refusal.specs.Outcome.{wrote, refuses}
 use Rattle.packed_string.specs.declared.text_group.Mode.the-variants.{Crate, Standard}
-use Rattle.commands.specs.Variables.{codesRequested, groupsRead, variablesRefused, variablesRead}
+use Rattle.commands.specs.Variables.{mostVariables, codesRequested, groupsRead, variablesRefused, variablesRead}
 
 module _ (codes buffer : List ℕ) where
-  pub requests-too-many : 8 < length codes → codesRequested codes buffer ≡ refuses 1 [] buffer
+  pub requests-too-many : mostVariables < length codes → codesRequested codes buffer ≡ refuses 1 [] buffer
   unfolding codesRequested
-  requests-too-many h = rw (lt-ltb 8 (length codes) h)
+  requests-too-many h = rw (lt-ltb mostVariables (length codes) h)
 
-  pub requests-no-room : length codes ≤ 8 → length buffer < length codes → codesRequested codes buffer ≡ refuses 2 [] buffer
+  pub requests-no-room : length codes ≤ mostVariables → length buffer < length codes → codesRequested codes buffer ≡ refuses 2 [] buffer
   unfolding codesRequested
-  requests-no-room h k = rw (le-ltb 8 (length codes) h, lt-ltb (length buffer) (length codes) k)
+  requests-no-room h k = rw (le-ltb mostVariables (length codes) h, lt-ltb (length buffer) (length codes) k)
 
-  pub requests : length codes ≤ 8 → length codes ≤ length buffer → codesRequested codes buffer ≡ wrote codes buffer
+  pub requests : length codes ≤ mostVariables → length codes ≤ length buffer → codesRequested codes buffer ≡ wrote codes buffer
   unfolding codesRequested
-  requests h k = rw (le-ltb 8 (length codes) h, le-ltb (length buffer) (length codes) k)
+  requests h k = rw (le-ltb mostVariables (length codes) h, le-ltb (length buffer) (length codes) k)
 
 module _ (bs : List ℕ) where
   pub crate-reads : variablesRead Crate bs ≡ groupsRead bs

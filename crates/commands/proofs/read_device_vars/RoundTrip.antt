@@ -1,13 +1,13 @@
 -- No bit of a group is lost: a variable's bytes are those that it was read from, and a variable that was written reads back as itself. What
 -- a request wrote is its codes.
-use Prim.Native.Nat.{ℕ, zero, suc, _+_, _^_, _≤_, _<_}
-use native.Mathlib.Nat.{add-zero, add-suc}
+use Prim.Native.Nat.{ℕ, _+_, _^_, _≤_, _<_}
+use native.Mathlib.Nat.{add-zero}
 use native.Mathlib.Omega.{arith}
 use mathlib.Core.Path.{_≡_, refl, sym, ap, _∙_}
 use mathlib.Core.Bool.{Bool, true, false, cond}
 use mathlib.Core.List.{List, [], _∷_, _++_}
 use lib.ListN.{length, getD, take, drop}
-use lib.Seq.{drop-cons, take-at}
+use lib.Seq.{take-at}
 use lib.Dec.{ltb, lit<}
 use lib.Ieee.{binary32, toBits, nanBits}
 use Rattle.refusal.specs.Outcome.{done, ends, wrote, refuses}
@@ -15,18 +15,8 @@ use Rattle.octets.specs.Digits.{Below}
 use Rattle.octets.proofs.Digits.{below-at, digits-from, from-digits-whole, from-below}
 use Rattle.commands.specs.Worth.{worth, Sound}
 use Rattle.commands.proofs.Worths.{keeps-bits, sound}
-use Rattle.commands.specs.Variables.{codesRequested, variable, variableAt, groupBytes}
-
--- what stands at n + j and behind it
-abbrev standing : List ℕ → ℕ → ℕ → ℕ → List ℕ
-standing l n j zero = []
-standing l n j (suc k) = getD l (n + j) 0 ∷ standing l n (suc j) k
-
-taken : (l : List ℕ) (n j k : ℕ) → n + j + k ≤ length l → take k (drop (n + j) l) ≡ standing l n j k
-taken l n j zero h = refl
-taken l n j (suc k) h =
-    ap (take (suc k)) (drop-cons l (n + j) 0 (omega arith))
-    ∙ ap (λ (r : List ℕ). getD l (n + j) 0 ∷ r) (ap (λ (m : ℕ). take k (drop m l)) (sym (add-suc n j)) ∙ taken l n (suc j) k (omega arith))
+use Rattle.commands.proofs.Places.{standing, taken}
+use Rattle.commands.specs.Variables.{mostVariables, groupSize, codesRequested, variable, variableAt, groupBytes}
 
 abbrev floatAt : List ℕ → ℕ → List ℕ
 floatAt bs base = getD bs (base + 3) 0 ∷ getD bs (base + 4) 0 ∷ getD bs (base + 5) 0 ∷ getD bs (base + 6) 0 ∷ []
@@ -35,13 +25,13 @@ module _ (bs : List ℕ) (base : ℕ) (bytes : Below 256 bs) where
   float-below : Below 256 (floatAt bs base)
   float-below = let byte : (i : ℕ) → getD bs i 0 < 256 = below-at 256 bs bytes (lit< tt) in (byte (base + 3), (byte (base + 4), (byte (base + 5), (byte (base + 6), tt))))
 
-  pub group-back : base + 8 ≤ length bs → groupBytes (variableAt bs base) ≡ take 8 (drop base bs)
+  pub group-back : base + groupSize ≤ length bs → groupBytes (variableAt bs base) ≡ take groupSize (drop base bs)
   group-back h =
       let at : ℕ → ℕ = λ i. getD bs i 0 in
       ap (λ (ds : List ℕ). (at base ∷ at (base + 1) ∷ at (base + 2) ∷ ds) ++ (at (base + 7) ∷ [])) (digits-from 256 (floatAt bs base) float-below)
       ∙ ap (λ (i : ℕ). at i ∷ standing bs base 1 7) (sym (add-zero base))
-      ∙ sym (taken bs base 0 8 (omega arith))
-      ∙ ap (λ (i : ℕ). take 8 (drop i bs)) (add-zero base)
+      ∙ sym (taken bs base 0 groupSize (omega arith))
+      ∙ ap (λ (i : ℕ). take groupSize (drop i bs)) (add-zero base)
 
   bits-below : variableAt bs base .bits < 2 ^ 32
   bits-below = from-below 256 (floatAt bs base) float-below
@@ -60,7 +50,7 @@ variable-back code class unit bits status rest h = ap (λ (n : ℕ). variable co
 -- the codes of a request that was written are those that were asked for
 pub request-back : (codes buffer : List ℕ) {values left : List ℕ} → codesRequested codes buffer ≡ ends (done values) left → take (length codes) left ≡ codes
 unfolding codesRequested
-request-back codes buffer {values} {left} = by (ltb 8 (length codes)) (ltb (length buffer) (length codes))
+request-back codes buffer {values} {left} = by (ltb mostVariables (length codes)) (ltb (length buffer) (length codes))
   where
     by : (many small : Bool) → cond many (refuses 1 [] buffer) (cond small (refuses 2 [] buffer) (wrote codes buffer)) ≡ ends (done values) left → take (length codes) left ≡ codes
     by true small e = cc

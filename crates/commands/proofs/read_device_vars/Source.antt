@@ -17,7 +17,7 @@ use Rattle.octets.proofs.Put.{put-nil, length-put, put-snoc, put-wrote}
 use Rattle.packed_string.specs.declared.text_group.Mode.the-variants.{Crate}
 use Rattle.framing.specs.Payload.{carries}
 use Rattle.commands.specs.declared.read_device_vars.DeviceVariable.{DeviceVariable}
-use Rattle.commands.specs.Variables.{codesRequested, variable, variableAt, groupsOf, firstVariables, noVariable, readsVariables, variablesRead}
+use Rattle.commands.specs.Variables.{mostVariables, groupSize, codesRequested, variable, variableAt, groupsOf, firstVariables, noVariable, readsVariables, variablesRead}
 use Rattle.commands.specs.VariablesSource.{
   codeLoop,
   sourceCodes,
@@ -45,7 +45,7 @@ code-loop (code ∷ codes) bs l i rest e h =
     (code-loop codes (bs ++ (code ∷ [])) l (i + 1) rest (omega (arith, length-append bs (code ∷ []))) (omega arith)
     ∙ ap (λ (r : List ℕ). rest (put l 0 r)) (append-snoc bs code codes))
 
-pub encode-is-source : (codes buffer : List ℕ) → length codes ≤ 8 → sourceCodes codes buffer ≡ comes (codesRequested codes buffer)
+pub encode-is-source : (codes buffer : List ℕ) → length codes ≤ mostVariables → sourceCodes codes buffer ≡ comes (codesRequested codes buffer)
 encode-is-source codes buffer few = by (ltb (length buffer) (length codes)) refl
   where
     end : List ℕ → Run Outcome
@@ -62,7 +62,7 @@ encode-is-source codes buffer few = by (ltb (length buffer) (length codes)) refl
 bytes-number : (a b c d : ℕ) → fromBeBytes a b c d ≡ fromDigits 256 (a ∷ b ∷ c ∷ d ∷ [])
 bytes-number a b c d = omega arith
 
-group-at : (bs : List ℕ) (base : ℕ) (rest : SourceVariable → Run (List SourceVariable)) → base + 8 ≤ length bs → groupAt bs base rest ≡ rest (sourceVariable (variableAt bs base))
+group-at : (bs : List ℕ) (base : ℕ) (rest : SourceVariable → Run (List SourceVariable)) → base + groupSize ≤ length bs → groupAt bs base rest ≡ rest (sourceVariable (variableAt bs base))
 group-at bs base rest h =
     rw (
       lt-ltb base (length bs) (omega arith),
@@ -85,15 +85,15 @@ length-source : (bs : List ℕ) (k : ℕ) → length (firstSource bs k) ≡ k
 length-source bs k = length-map (firstVariables bs k) sourceVariable ∙ length-first bs k
 
 -- no group of the loop is cut off, and none is pushed as the ninth
-group-loop : (bs : List ℕ) (turns i n : ℕ) → i + turns ≡ n → n * 8 ≤ length bs → n ≤ 8 → variableLoop bs turns i (firstSource bs i) ≡ comes (firstSource bs n)
+group-loop : (bs : List ℕ) (turns i n : ℕ) → i + turns ≡ n → n * groupSize ≤ length bs → n ≤ mostVariables → variableLoop bs turns i (firstSource bs i) ≡ comes (firstSource bs n)
 group-loop bs zero i n e h k = let same : i ≡ n = omega arith in ap (λ (m : ℕ). comes (firstSource bs m)) same
 group-loop bs (suc turns) i n e h k =
     let next : SourceVariable → Run (List SourceVariable) = λ v. variableLoop bs turns (suc i) (push (firstSource bs i) v) in
-    let room : ltb (length (firstSource bs i)) 8 ≡ true = lt-ltb (length (firstSource bs i)) 8 (omega (arith, length-source bs i)) in
-    let one : firstSource bs i ++ (sourceVariable (variableAt bs (i * 8)) ∷ []) ≡ firstSource bs (suc i) = sym (map-append sourceVariable (firstVariables bs i) (variableAt bs (i * 8) ∷ [])) in
-    ap (λ (t : Bool). cond t (comes (firstSource bs i)) (groupAt bs (i * 8) next)) (le-ltb (length bs) (i * 8 + 8) (omega arith))
-    ∙ group-at bs (i * 8) next (omega arith)
-    ∙ ap (λ (t : Bool). variableLoop bs turns (suc i) (cond t (firstSource bs i ++ (sourceVariable (variableAt bs (i * 8)) ∷ [])) (firstSource bs i))) room
+    let room : ltb (length (firstSource bs i)) mostVariables ≡ true = lt-ltb (length (firstSource bs i)) mostVariables (omega (arith, length-source bs i)) in
+    let one : firstSource bs i ++ (sourceVariable (variableAt bs (i * groupSize)) ∷ []) ≡ firstSource bs (suc i) = sym (map-append sourceVariable (firstVariables bs i) (variableAt bs (i * groupSize) ∷ [])) in
+    ap (λ (t : Bool). cond t (comes (firstSource bs i)) (groupAt bs (i * groupSize) next)) (le-ltb (length bs) (i * groupSize + groupSize) (omega arith))
+    ∙ group-at bs (i * groupSize) next (omega arith)
+    ∙ ap (λ (t : Bool). variableLoop bs turns (suc i) (cond t (firstSource bs i ++ (sourceVariable (variableAt bs (i * groupSize)) ∷ [])) (firstSource bs i))) room
     ∙ ap (variableLoop bs turns (suc i)) one
     ∙ group-loop bs turns (suc i) n (omega arith) h k
 
@@ -102,7 +102,7 @@ pub decode-is-source : (bs : List ℕ) → let vs = firstVariables bs (groupsOf 
 decode-is-source bs =
     let n = groupsOf (length bs) in (
       group-loop bs n 0 n (omega arith) (omega arith) (omega arith),
-      crate-reads bs ∙ ap (λ (k : ℕ). readsVariables carries k (firstVariables bs n ++ replicate (8 - k) noVariable)) (sym (length-first bs n)),
+      crate-reads bs ∙ ap (λ (k : ℕ). readsVariables carries k (firstVariables bs n ++ replicate (mostVariables - k) noVariable)) (sym (length-first bs n)),
     )
 
 -- and off the NaNs our floats have those bits
@@ -113,8 +113,8 @@ bits-snoc (w ∷ vs) v a b = (a .0, bits-snoc vs v (a .1) b)
 first-bits : (bs : List ℕ) (k : ℕ) → Below 256 bs → AllHaveBits (firstVariables bs k)
 first-bits bs zero small = tt
 first-bits bs (suc k) small =
-    let v = variableAt bs (k * 8) in
-    bits-snoc (firstVariables bs k) v (first-bits bs k small) (refl, value-keeps-bits bs (k * 8) small, nan-value (v .bits))
+    let v = variableAt bs (k * groupSize) in
+    bits-snoc (firstVariables bs k) v (first-bits bs k small) (refl, value-keeps-bits bs (k * groupSize) small, nan-value (v .bits))
 
 pub values-have-bits : (bs : List ℕ) → Below 256 bs → AllHaveBits (firstVariables bs (groupsOf (length bs)))
 values-have-bits bs small = first-bits bs (groupsOf (length bs)) small

@@ -10,23 +10,22 @@ use Rattle.refusal.specs.Outcome.{done, ends}
 use Rattle.packed_string.specs.declared.text_group.Mode.{Mode}
 use Rattle.packed_string.specs.Plain.{Plain}
 use Rattle.packed_string.specs.Text.{readBack}
-use Rattle.commands.specs.Modes.{packedText, unpackedText}
-use Rattle.commands.proofs.Texts.{length-packed-text, fields-done}
+use Rattle.commands.specs.Modes.{packedText, unpackedText, tagLength, tagSize}
+use Rattle.commands.proofs.Texts.{packed-text-size, fields-done}
 use Rattle.commands.proofs.TextRoundTrip.{whole-back, whole-plain-back}
 use Rattle.commands.specs.Tag.{tagRequested}
 
-module _ (mode : Mode) (tag : List ℕ) (t : length tag ≡ 8) where
+module _ (mode : Mode) (tag : List ℕ) (t : length tag ≡ tagLength) where
   pub tag-back : unpackedText mode (packedText mode tag) ≡ map (readBack mode) tag
   tag-back = whole-back mode tag (omega arith)
 
   pub plain-tag-back : Plain tag → unpackedText mode (packedText mode tag) ≡ tag
   plain-tag-back = whole-plain-back mode tag (omega arith)
 
-  pub request-back : (buffer : List ℕ) {values left : List ℕ} → tagRequested mode tag buffer ≡ ends (done values) left → unpackedText mode (take 6 left) ≡ map (readBack mode) tag
+  pub request-back : (buffer : List ℕ) {values left : List ℕ} → tagRequested mode tag buffer ≡ ends (done values) left → unpackedText mode (take tagSize left) ≡ map (readBack mode) tag
   unfolding tagRequested
   request-back buffer e =
       let p = packedText mode tag in
-      let six : length p ≡ 6 = omega (arith, length-packed-text mode tag) in
-      ap (λ (l : List ℕ). unpackedText mode (take 6 l)) (fields-done mode 6 _ p buffer e)
-      ∙ ap (unpackedText mode) (take-at p (drop (length p) buffer) 6 six)
+      ap (λ (l : List ℕ). unpackedText mode (take tagSize l)) (fields-done mode tagSize _ p buffer e)
+      ∙ ap (unpackedText mode) (take-at p (drop (length p) buffer) tagSize (packed-text-size mode tag t))
       ∙ tag-back

@@ -16,25 +16,25 @@ use Rattle.packed_string.specs.declared.text_group.Mode.the-variants.{Crate}
 use Rattle.packed_string.specs.Source.{sourceEncoded}
 use Rattle.commands.specs.Identity.{Identified, identified, unidentified, identity}
 use Rattle.commands.proofs.IdentitySource.{identity-is-source}
-use Rattle.commands.specs.Modes.{packedText, unpackedText}
-use Rattle.commands.proofs.Texts.{length-packed-text, crate-good}
+use Rattle.commands.specs.Modes.{packedText, unpackedText, tagLength, tagSize}
+use Rattle.commands.proofs.Texts.{packed-text-size, crate-good}
 use Rattle.commands.proofs.TextSource.{source-lent, source-filled}
 use Rattle.commands.specs.Tag.{tagRequested}
 use Rattle.commands.specs.TagSource.{sourceTagRequested, copied, passedUp, sourceResponse, sourceTag}
 use Rattle.commands.proofs.read_unique_id_by_tag.Tags.{tag-small, tag-fits}
 
-pub encode-is-source : (tag buf : List ℕ) → length tag ≡ 8 → sourceTagRequested tag buf ≡ comes (tagRequested Crate tag buf)
-encode-is-source tag buf t = by (ltb (length buf) 6) refl
+pub encode-is-source : (tag buf : List ℕ) → length tag ≡ tagLength → sourceTagRequested tag buf ≡ comes (tagRequested Crate tag buf)
+encode-is-source tag buf t = by (ltb (length buf) tagSize) refl
   where
-    six : List ℕ → Run Outcome
-    six b = comes (ends (done (6 ∷ [])) b)
+    whole : List ℕ → Run Outcome
+    whole b = comes (ends (done (tagSize ∷ [])) b)
 
-    by : (small : Bool) → ltb (length buf) 6 ≡ small → cond small (comes (refuses 2 [] buf)) (lentTo buf 0 6 (sourceEncoded tag) six) ≡ comes (tagRequested Crate tag buf)
-    by true e = ap comes (sym (tag-small Crate tag buf (ltb-true (length buf) 6 e)))
+    by : (small : Bool) → ltb (length buf) tagSize ≡ small → cond small (comes (refuses 2 [] buf)) (lentTo buf 0 tagSize (sourceEncoded tag) whole) ≡ comes (tagRequested Crate tag buf)
+    by true e = ap comes (sym (tag-small Crate tag buf (ltb-true (length buf) tagSize e)))
     by false e =
-        let room : 6 ≤ length buf = ltb-false (length buf) 6 e in
-        source-lent tag buf 0 6 six (omega arith) room
-        ∙ ap comes (put-wrote buf (packedText Crate tag) refl (omega (arith, length-packed-text Crate tag)) ∙ sym (tag-fits Crate tag buf room (crate-good tag)))
+        let room : tagSize ≤ length buf = ltb-false (length buf) tagSize e in
+        source-lent tag buf 0 tagSize whole (omega arith) room
+        ∙ ap comes (put-wrote buf (packedText Crate tag) refl (sym (packed-text-size Crate tag t)) ∙ sym (tag-fits Crate tag buf room (crate-good tag)))
 
 copied-same : (r : Identified) → copied r ≡ r
 copied-same (identified id) = refl
@@ -43,5 +43,5 @@ copied-same (unidentified number values) = refl
 pub decode-is-source : (bs : List ℕ) → Below 256 bs → sourceResponse bs ≡ comes (identity bs)
 decode-is-source bs b = ap passedUp (identity-is-source bs b) ∙ ap comes (copied-same (identity bs))
 
-pub tag-is-source : (packed : List ℕ) → length packed ≡ 6 → Below 256 packed → sourceTag packed ≡ comes (unpackedText Crate packed)
-tag-is-source packed e b = source-filled packed (replicate 8 0x20) comes b (omega arith) (omega arith)
+pub tag-is-source : (packed : List ℕ) → length packed ≡ tagSize → Below 256 packed → sourceTag packed ≡ comes (unpackedText Crate packed)
+tag-is-source packed e b = source-filled packed (replicate tagLength 0x20) comes b (omega arith) (omega arith)

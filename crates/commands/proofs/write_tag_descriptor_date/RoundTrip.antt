@@ -11,13 +11,13 @@ use Rattle.packed_string.specs.Plain.{Plain}
 use Rattle.packed_string.specs.Text.{readBack}
 use Rattle.packed_string.proofs.RoundTrip.{plain-back}
 use Rattle.framing.specs.Payload.{carries}
-use Rattle.commands.specs.Modes.{packedText, unpackedText}
-use Rattle.commands.proofs.Texts.{fields-done}
+use Rattle.commands.specs.Modes.{packedText, unpackedText, tagLength, tagSize}
+use Rattle.commands.proofs.Texts.{packed-text-size, fields-done}
 use Rattle.commands.proofs.TextRoundTrip.{whole-back}
-use Rattle.commands.specs.TagDescriptorDate.{tagDescriptorDateLayout, tagDescriptorDateRequested, readsFields, fieldsRead}
-use Rattle.commands.proofs.write_tag_descriptor_date.Layouts.{length-tag, length-descriptor, length-texts, length-layout, read-whole}
+use Rattle.commands.specs.TagDescriptorDate.{descriptorLength, descriptorSize, dayAt, monthAt, yearAt, layoutSize, tagDescriptorDateLayout, tagDescriptorDateRequested, readsFields, fieldsRead}
+use Rattle.commands.proofs.tag_descriptor_date.Layouts.{length-texts, length-layout, read-whole}
 
-module _ (mode : Mode) (tag descriptor : List ℕ) (day month year : ℕ) (t : length tag ≡ 8) (d : length descriptor ≡ 16) (rest : List ℕ) where
+module _ (mode : Mode) (tag descriptor : List ℕ) (day month year : ℕ) (t : length tag ≡ tagLength) (d : length descriptor ≡ descriptorLength) (rest : List ℕ) where
   pub fields-back : fieldsRead mode (tagDescriptorDateLayout mode tag descriptor day month year ++ rest) ≡ readsFields carries (map (readBack mode) tag) (map (readBack mode) descriptor) day month year
   fields-back =
       let p = packedText mode tag in
@@ -28,22 +28,22 @@ module _ (mode : Mode) (tag descriptor : List ℕ) (day month year : ℕ) (t : l
       let bs = tagDescriptorDateLayout mode tag descriptor day month year ++ rest in
       let texts : bs ≡ (p ++ q) ++ date = append-assoc (p ++ q) (day ∷ month ∷ year ∷ []) rest in
       let split : bs ≡ p ++ (q ++ date) = texts ∙ append-assoc p q date in
-      let first : take 6 bs ≡ p = ap (take 6) split ∙ take-at p (q ++ date) 6 (length-tag mode tag t) in
-      let second : take 12 (drop 6 bs) ≡ q = ap (take 12) (ap (drop 6) split ∙ drop-at p (q ++ date) 6 (length-tag mode tag t)) ∙ take-at q date 12 (length-descriptor mode descriptor d) in
-      let at : (k : ℕ) → getD bs (18 + k) 0 ≡ getD date k 0 = λ k. ap₂ (λ (l : List ℕ) (i : ℕ). getD l (i + k) 0) texts (sym (length-texts mode tag descriptor t d)) ∙ getD-append-add (p ++ q) date k 0 in
+      let first : take tagSize bs ≡ p = ap (take tagSize) split ∙ take-at p (q ++ date) tagSize (packed-text-size mode tag t) in
+      let second : take descriptorSize (drop tagSize bs) ≡ q = ap (take descriptorSize) (ap (drop tagSize) split ∙ drop-at p (q ++ date) tagSize (packed-text-size mode tag t)) ∙ take-at q date descriptorSize (packed-text-size mode descriptor d) in
+      let at : (k : ℕ) → getD bs (dayAt + k) 0 ≡ getD date k 0 = λ k. ap₂ (λ (l : List ℕ) (i : ℕ). getD l (i + k) 0) texts (sym (length-texts tag descriptor t d mode)) ∙ getD-append-add (p ++ q) date k 0 in
       read-whole mode bs (omega (arith, length-append (tagDescriptorDateLayout mode tag descriptor day month year) rest, length-layout mode tag descriptor day month year t d))
-      ∙ ap₂ (λ (x y : List ℕ). readsFields carries (unpackedText mode x) (unpackedText mode y) (getD bs 18 0) (getD bs 19 0) (getD bs 20 0)) first second
-      ∙ ap₂ (λ (x y : List ℕ). readsFields carries x y (getD bs 18 0) (getD bs 19 0) (getD bs 20 0)) (whole-back mode tag (omega arith)) (whole-back mode descriptor (omega arith))
-      ∙ ap₂ (λ (x y : ℕ). readsFields carries tag′ descriptor′ x y (getD bs 20 0)) (at 0) (at 1)
+      ∙ ap₂ (λ (x y : List ℕ). readsFields carries (unpackedText mode x) (unpackedText mode y) (getD bs dayAt 0) (getD bs monthAt 0) (getD bs yearAt 0)) first second
+      ∙ ap₂ (λ (x y : List ℕ). readsFields carries x y (getD bs dayAt 0) (getD bs monthAt 0) (getD bs yearAt 0)) (whole-back mode tag (omega arith)) (whole-back mode descriptor (omega arith))
+      ∙ ap₂ (λ (x y : ℕ). readsFields carries tag′ descriptor′ x y (getD bs yearAt 0)) (at 0) (at 1)
       ∙ ap (λ (x : ℕ). readsFields carries tag′ descriptor′ day month x) (at 2)
 
   pub plain-fields-back : Plain tag → Plain descriptor → fieldsRead mode (tagDescriptorDateLayout mode tag descriptor day month year ++ rest) ≡ readsFields carries tag descriptor day month year
   plain-fields-back f g = fields-back ∙ ap₂ (λ (x y : List ℕ). readsFields carries x y day month year) (plain-back mode tag f) (plain-back mode descriptor g)
 
 -- and so does what a request wrote
-pub request-back : (mode : Mode) (tag descriptor : List ℕ) (day month year : ℕ) → length tag ≡ 8 → length descriptor ≡ 16 → (buffer : List ℕ) {values left : List ℕ}
+pub request-back : (mode : Mode) (tag descriptor : List ℕ) (day month year : ℕ) → length tag ≡ tagLength → length descriptor ≡ descriptorLength → (buffer : List ℕ) {values left : List ℕ}
     → tagDescriptorDateRequested mode tag descriptor day month year buffer ≡ ends (done values) left → fieldsRead mode left ≡ readsFields carries (map (readBack mode) tag) (map (readBack mode) descriptor) day month year
 unfolding tagDescriptorDateRequested
 request-back mode tag descriptor day month year t d buffer e =
     let bytes = tagDescriptorDateLayout mode tag descriptor day month year in
-    ap (fieldsRead mode) (fields-done mode 21 _ bytes buffer e) ∙ fields-back mode tag descriptor day month year t d (drop (length bytes) buffer)
+    ap (fieldsRead mode) (fields-done mode layoutSize _ bytes buffer e) ∙ fields-back mode tag descriptor day month year t d (drop (length bytes) buffer)

@@ -17,16 +17,16 @@ use Rattle.octets.proofs.Put.{length-put, put-wrote}
 use Rattle.packed_string.specs.declared.text_group.Mode.the-variants.{Crate}
 use Rattle.packed_string.specs.Source.{sourceEncoded, sourceDecoded}
 use Rattle.framing.specs.Payload.{carries}
-use Rattle.commands.specs.Modes.{packedText, unpackedText}
-use Rattle.commands.proofs.Texts.{crate-good}
+use Rattle.commands.specs.Modes.{packedText, unpackedText, tagLength, tagSize}
+use Rattle.commands.proofs.Texts.{packed-text-size, crate-good}
 use Rattle.commands.proofs.TextSource.{source-lent, source-filled}
-use Rattle.commands.specs.TagDescriptorDate.{Fields, readsFields, tagDescriptorDateLayout, tagDescriptorDateRequested, fieldsRefused, fieldsRead}
+use Rattle.commands.specs.TagDescriptorDate.{descriptorLength, descriptorSize, dayAt, monthAt, yearAt, layoutSize, Fields, readsFields, tagDescriptorDateLayout, tagDescriptorDateRequested, fieldsRefused, fieldsRead}
 use Rattle.commands.specs.TagDescriptorDateSource.{sourceFieldsRequested, sourceRead}
-use Rattle.commands.proofs.write_tag_descriptor_date.Layouts.{length-tag, length-descriptor, length-both, length-layout, fields-put, requested-small, requested-fits, read-short, read-whole}
+use Rattle.commands.proofs.tag_descriptor_date.Layouts.{length-both, length-layout, fields-put, requested-small, requested-fits, read-short, read-whole}
 
-pub encode-is-source : (tag descriptor : List ℕ) (day month year : ℕ) (buf : List ℕ) → length tag ≡ 8 → length descriptor ≡ 16
+pub encode-is-source : (tag descriptor : List ℕ) (day month year : ℕ) (buf : List ℕ) → length tag ≡ tagLength → length descriptor ≡ descriptorLength
     → sourceFieldsRequested tag descriptor day month year buf ≡ comes (tagDescriptorDateRequested Crate tag descriptor day month year buf)
-encode-is-source tag descriptor day month year buf t d = by (ltb (length buf) 21) refl
+encode-is-source tag descriptor day month year buf t d = by (ltb (length buf) layoutSize) refl
   where
     p : List ℕ
     p = packedText Crate tag
@@ -35,24 +35,24 @@ encode-is-source tag descriptor day month year buf t d = by (ltb (length buf) 21
     q = packedText Crate descriptor
 
     stored : List ℕ → Run Outcome
-    stored b = storeAt b 18 day (λ b₁. storeAt b₁ 19 month (λ b₂. storeAt b₂ 20 year (λ b₃. comes (ends (done (21 ∷ [])) b₃))))
+    stored b = storeAt b dayAt day (λ b₁. storeAt b₁ monthAt month (λ b₂. storeAt b₂ yearAt year (λ b₃. comes (ends (done (layoutSize ∷ [])) b₃))))
 
-    by : (small : Bool) → ltb (length buf) 21 ≡ small
-        → cond small (comes (refuses 2 [] buf)) (lentTo buf 0 6 (sourceEncoded tag) (λ b. lentTo b 6 18 (sourceEncoded descriptor) stored)) ≡ comes (tagDescriptorDateRequested Crate tag descriptor day month year buf)
-    by true e = ap comes (sym (requested-small Crate tag descriptor day month year buf (ltb-true (length buf) 21 e)))
+    by : (small : Bool) → ltb (length buf) layoutSize ≡ small
+        → cond small (comes (refuses 2 [] buf)) (lentTo buf 0 tagSize (sourceEncoded tag) (λ b. lentTo b tagSize dayAt (sourceEncoded descriptor) stored)) ≡ comes (tagDescriptorDateRequested Crate tag descriptor day month year buf)
+    by true e = ap comes (sym (requested-small Crate tag descriptor day month year buf (ltb-true (length buf) layoutSize e)))
     by false e =
-        let room : 21 ≤ length buf = ltb-false (length buf) 21 e in
+        let room : layoutSize ≤ length buf = ltb-false (length buf) layoutSize e in
         let b₁ = put buf 0 p in
-        let l₁ : length b₁ ≡ length buf = length-put buf 0 p (omega (arith, length-tag Crate tag t)) in
-        let b₂ = put b₁ 6 q in
-        let l₂ : length b₂ ≡ length b₁ = length-put b₁ 6 q (omega (arith, length-descriptor Crate descriptor d)) in
-        let b₃ = set b₂ 18 day in
-        let l₃ : length b₃ ≡ length b₂ = length-set b₂ 18 day in
-        let b₄ = set b₃ 19 month in
-        let l₄ : length b₄ ≡ length b₃ = length-set b₃ 19 month in
-        source-lent tag buf 0 6 (λ b. lentTo b 6 18 (sourceEncoded descriptor) stored) (omega arith) (omega arith)
-        ∙ source-lent descriptor b₁ 6 18 stored (omega arith) (omega arith)
-        ∙ rw (lt-ltb 18 (length b₂) (omega arith), lt-ltb 19 (length b₃) (omega arith), lt-ltb 20 (length b₄) (omega arith))
+        let l₁ : length b₁ ≡ length buf = length-put buf 0 p (omega (arith, packed-text-size Crate tag t)) in
+        let b₂ = put b₁ tagSize q in
+        let l₂ : length b₂ ≡ length b₁ = length-put b₁ tagSize q (omega (arith, packed-text-size Crate descriptor d)) in
+        let b₃ = set b₂ dayAt day in
+        let l₃ : length b₃ ≡ length b₂ = length-set b₂ dayAt day in
+        let b₄ = set b₃ monthAt month in
+        let l₄ : length b₄ ≡ length b₃ = length-set b₃ monthAt month in
+        source-lent tag buf 0 tagSize (λ b. lentTo b tagSize dayAt (sourceEncoded descriptor) stored) (omega arith) (omega arith)
+        ∙ source-lent descriptor b₁ tagSize dayAt stored (omega arith) (omega arith)
+        ∙ rw (lt-ltb dayAt (length b₂) (omega arith), lt-ltb monthAt (length b₃) (omega arith), lt-ltb yearAt (length b₄) (omega arith))
         (ap comes (put-wrote buf (tagDescriptorDateLayout Crate tag descriptor day month year) (fields-put Crate tag descriptor day month year t d buf room refl refl) (sym (length-layout Crate tag descriptor day month year t d))
         ∙ sym (requested-fits Crate tag descriptor day month year t d buf room (omega (arith, crate-good (tag ++ descriptor), length-both tag descriptor t d)))))
 
@@ -67,24 +67,24 @@ below-drop (suc n) [] h = tt
 below-drop (suc n) (b ∷ bs) h = below-drop n bs (h .1)
 
 pub decode-is-source : (bs : List ℕ) → Below 256 bs → sourceRead bs ≡ comes (fieldsRead Crate bs)
-decode-is-source bs h = by (ltb (length bs) 21) refl
+decode-is-source bs h = by (ltb (length bs) layoutSize) refl
   where
     dated : List ℕ → List ℕ → Run Fields
-    dated tag descriptor = readAt bs 18 (λ day. readAt bs 19 (λ month. readAt bs 20 (λ year. comes (readsFields carries tag descriptor day month year))))
+    dated tag descriptor = readAt bs dayAt (λ day. readAt bs monthAt (λ month. readAt bs yearAt (λ year. comes (readsFields carries tag descriptor day month year))))
 
     described : List ℕ → Run Fields
-    described tag = sliceAt bs 6 18 (λ part. afterCall (sourceDecoded part (replicate 16 0x20)) (dated tag))
+    described tag = sliceAt bs tagSize dayAt (λ part. afterCall (sourceDecoded part (replicate descriptorLength 0x20)) (dated tag))
 
-    by : (short : Bool) → ltb (length bs) 21 ≡ short → cond short (comes (fieldsRefused 3 [])) (sliceAt bs 0 6 (λ part. afterCall (sourceDecoded part (replicate 8 0x20)) described)) ≡ comes (fieldsRead Crate bs)
-    by true e = ap comes (sym (read-short Crate bs (ltb-true (length bs) 21 e)))
+    by : (short : Bool) → ltb (length bs) layoutSize ≡ short → cond short (comes (fieldsRefused 3 [])) (sliceAt bs 0 tagSize (λ part. afterCall (sourceDecoded part (replicate tagLength 0x20)) described)) ≡ comes (fieldsRead Crate bs)
+    by true e = ap comes (sym (read-short Crate bs (ltb-true (length bs) layoutSize e)))
     by false e =
-        let room : 21 ≤ length bs = ltb-false (length bs) 21 e in
-        let first = take 6 bs in
-        let second = take 12 (drop 6 bs) in
-        let l₁ : length first ≡ 6 = length-take-le 6 bs (omega arith) in
-        let l₂ : length second ≡ 12 = length-take-le 12 (drop 6 bs) (omega (arith, length-drop 6 bs)) in
-        rw (le-leb 6 (length bs) (omega arith))
-        (source-filled first (replicate 8 0x20) described (below-take 6 bs h) (omega arith) (omega arith)
-        ∙ rw (le-leb 18 (length bs) (omega arith))
-        (source-filled second (replicate 16 0x20) (dated (unpackedText Crate first)) (below-take 12 (drop 6 bs) (below-drop 6 bs h)) (omega arith) (omega arith)
-        ∙ rw (lt-ltb 18 (length bs) (omega arith), lt-ltb 19 (length bs) (omega arith), lt-ltb 20 (length bs) (omega arith)) (ap comes (sym (read-whole Crate bs room)))))
+        let room : layoutSize ≤ length bs = ltb-false (length bs) layoutSize e in
+        let first = take tagSize bs in
+        let second = take descriptorSize (drop tagSize bs) in
+        let l₁ : length first ≡ tagSize = length-take-le tagSize bs (omega arith) in
+        let l₂ : length second ≡ descriptorSize = length-take-le descriptorSize (drop tagSize bs) (omega (arith, length-drop tagSize bs)) in
+        rw (le-leb tagSize (length bs) (omega arith))
+        (source-filled first (replicate tagLength 0x20) described (below-take tagSize bs h) (omega arith) (omega arith)
+        ∙ rw (le-leb dayAt (length bs) (omega arith))
+        (source-filled second (replicate descriptorLength 0x20) (dated (unpackedText Crate first)) (below-take descriptorSize (drop tagSize bs) (below-drop tagSize bs h)) (omega arith) (omega arith)
+        ∙ rw (lt-ltb dayAt (length bs) (omega arith), lt-ltb monthAt (length bs) (omega arith), lt-ltb yearAt (length bs) (omega arith)) (ap comes (sym (read-whole Crate bs room)))))

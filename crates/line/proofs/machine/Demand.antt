@@ -32,7 +32,7 @@ feeding-demand run k = demand feeding real follows run k
 pub stepped-demand : (run : List ℕ) → Bytes run → Demand stepped fresh run
 stepped-demand run k = demand stepped real (λ s b f h. stepped-real s b f) run k
 
--- what is heard, byte by byte, is what the scanner gives: a way to compute it without the 260 bytes
+-- what is heard, byte by byte, is what the scanner gives: a way to compute it without the bytes beside a state
 pub heard-scanned : (run : List ℕ) → Bytes run → says hears fresh run ≡ map heardOf (map told (says scan hunt run))
 heard-scanned run k = worded-says feeding heardOf fresh run ∙ ap (map heardOf) (follows-says feeding real follows hunt run tt k)
 

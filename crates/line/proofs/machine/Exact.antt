@@ -2,29 +2,30 @@
 use Prim.Native.Nat.{ℕ, _≤_, _<_, min}
 use native.Mathlib.Omega.{arith}
 use mathlib.Core.Path.{_≡_, refl, sym, ap, ap₂, subst, _∙_}
-use mathlib.Core.Bool.{Bool, true, false, _&&_}
+use mathlib.Core.Bool.{Bool, true, false}
 use mathlib.Core.Option.{Option, none, some}
 use mathlib.Core.List.{List, [], _∷_, _++_}
-use lib.Dec.{eqb, ltb, leb}
+use lib.Dec.{ltb, leb}
 use lib.ListN.{length, take, drop, length-drop, take-append-drop}
 use lib.Seq.{length-take-le, take-take}
 use borrow.Author.Tests.{eqb-true, ltb-true, leb-true}
 use Rattle.octets.specs.Check.{check, checkFrom}
 use Rattle.octets.proofs.Check.{check-first}
+use Rattle.types.specs.declared.delimiter.Opening.{Opening}
 use Rattle.types.specs.Delimiter.{delimiter}
-use Rattle.types.specs.Address.{addressLength}
+use Rattle.types.specs.Address.{headLength, headRoom}
 use Rattle.types.proofs.Delimiters.{delimiter-small}
-use Rattle.types.proofs.Addresses.{address-length-le}
-use Rattle.line.specs.Pieces.{Bytes, Piece, noise, shortRun, badDelimiter, frame, badCheck}
+use Rattle.types.proofs.Addresses.{head-length-le}
+use Rattle.line.specs.Pieces.{Bytes, Piece, noise, shortRun, badDelimiter, frame, badCheck, enough}
 use Rattle.line.specs.Events.{Event, refusal}
 use Rattle.line.specs.Runs.{endsIn}
 use Rattle.line.proofs.Exists.{fine-ends, held-ends, held-bytes}
 use Rattle.line.proofs.Bytes.{bytes-append, bytes-left, bytes-right}
 use Rattle.line.proofs.Scan.{addressing, commanding, counting, loading, checking, Scan, hunt, pre, within, wire, scan, told, held, Fine}
-use Rattle.line.specs.machine.Room.{decoderRoom}
+use Rattle.line.specs.machine.Room.{dataRoom, decoderRoom}
 use Rattle.line.specs.machine.Frames.{padded, answerOf}
-use Rattle.line.specs.machine.Step.{headOf}
-use Rattle.line.specs.machine.Reachable.{claimOf, allZero, isClear, isRight, reachableAt}
+use Rattle.line.specs.machine.Step.{headOf, preambleCap, openingIn}
+use Rattle.line.specs.machine.Reachable.{claimOf, allZero, reachableAt}
 use Rattle.line.specs.machine.Feed.{Held, holding, fresh, reachable, feeding}
 use Rattle.line.specs.machine.Demand.{hears, SmallState, Value, Reached}
 use Rattle.line.specs.declared.state.Head.{Head}
@@ -39,7 +40,7 @@ use Rattle.line.specs.declared.state.State.the-variants.{
   Checksum,
 }
 use Rattle.line.proofs.machine.Zeros.{and-first, and-second}
-use Rattle.line.proofs.machine.Claims.{possible-address}
+use Rattle.line.proofs.machine.Claims.{whole, possible, clear, right, possible-address}
 use Rattle.line.proofs.machine.Padded.{padded-back}
 use Rattle.line.proofs.machine.Demand.{ends-scanned}
 use Rattle.line.proofs.machine.Image.{array, blank-array, real, zeros-read, zero-read, reachable-real, follows}
@@ -56,122 +57,107 @@ bytes-take k bs h = bytes-left (take k bs) (drop k bs) (subst Bytes (sym (take-a
 bytes-drop : (k : ℕ) (bs : List ℕ) → Bytes bs → Bytes (drop k bs)
 bytes-drop k bs h = bytes-right (take k bs) (drop k bs) (subst Bytes (sym (take-append-drop k bs)) h)
 
-module _ (s : State) (bs : List ℕ) (whole : length bs ≡ decoderRoom) (r : reachableAt s bs ≡ true) where
-  abbrev claimed : Bool
-  claimed = claimOf s .possible && (isClear (claimOf s) bs && isRight (claimOf s) bs)
+module _ (s : State) (bs : List ℕ) (r : reachableAt s bs ≡ true) where
+  summed-right : claimOf s .check ≡ checkFrom (claimOf s .start) (take (claimOf s .address) bs ++ (claimOf s .command ∷ claimOf s .count ∷ take (claimOf s .loaded) (drop headRoom bs)))
+  summed-right = eqb-true (claimOf s .check) _ (right s bs r)
 
-  holds : claimed ≡ true
-  unfolding reachableAt
-  holds = and-second (eqb (length bs) decoderRoom) claimed r
-
-  possible : claimOf s .possible ≡ true
-  possible = and-first (claimOf s .possible) (isClear (claimOf s) bs && isRight (claimOf s) bs) holds
-
-  passed : isClear (claimOf s) bs && isRight (claimOf s) bs ≡ true
-  passed = and-second (claimOf s .possible) (isClear (claimOf s) bs && isRight (claimOf s) bs) holds
-
-  clear : isClear (claimOf s) bs ≡ true
-  clear = and-first (isClear (claimOf s) bs) (isRight (claimOf s) bs) passed
-
-  right : claimOf s .check ≡ checkFrom (claimOf s .start) (take (claimOf s .address) bs ++ (claimOf s .command ∷ claimOf s .count ∷ take (claimOf s .loaded) (drop 5 bs)))
-  right = eqb-true (claimOf s .check) _ (and-second (isClear (claimOf s) bs) (isRight (claimOf s) bs) passed)
-
-  -- the 260 bytes are what was read, and zeros
-  arrayed : claimOf s .loaded ≤ 255 → array (take (claimOf s .address) bs) (take (claimOf s .loaded) (drop 5 bs)) ≡ bs
+  -- the bytes are what was read, and zeros
+  arrayed : claimOf s .loaded ≤ dataRoom → array (take (claimOf s .address) bs) (take (claimOf s .loaded) (drop headRoom bs)) ≡ bs
   arrayed h =
       let k : ℕ = claimOf s .address in
       let n : ℕ = claimOf s .loaded in
-      let short : k ≤ 5 = possible-address s possible in
-      let address : padded 5 (take k (take 5 bs)) ≡ take 5 bs = padded-back 5 k (take 5 bs) (length-take-le 5 bs (omega arith)) short (and-first (allZero (drop k (take 5 bs))) (allZero (drop n (drop 5 bs))) clear) in
-      let loaded : padded 255 (take n (drop 5 bs)) ≡ drop 5 bs = padded-back 255 n (drop 5 bs) (length-drop 5 bs ∙ omega arith) h (and-second (allZero (drop k (take 5 bs))) (allZero (drop n (drop 5 bs))) clear) in
-      ap₂ (λ (xs ys : List ℕ). xs ++ ys) (rw (take-take k 5 bs short) at address) loaded ∙ take-append-drop 5 bs
+      let size : length bs ≡ decoderRoom = whole s bs r in
+      let short : k ≤ headRoom = possible-address s (possible s bs r) in
+      let address : padded headRoom (take k (take headRoom bs)) ≡ take headRoom bs = padded-back headRoom k (take headRoom bs) (length-take-le headRoom bs (omega arith)) short (and-first (allZero (drop k (take headRoom bs))) (allZero (drop n (drop headRoom bs))) (clear s bs r)) in
+      let loaded : padded dataRoom (take n (drop headRoom bs)) ≡ drop headRoom bs = padded-back dataRoom n (drop headRoom bs) (length-drop headRoom bs ∙ omega arith) h (and-second (allZero (drop k (take headRoom bs))) (allZero (drop n (drop headRoom bs))) (clear s bs r)) in
+      ap₂ (λ (xs ys : List ℕ). xs ++ ys) (rw (take-take k headRoom bs short) at address) loaded ∙ take-append-drop headRoom bs
 
   -- the check is that of the bytes from the delimiter on
-  summed : (h : Head) → claimOf s .check ≡ h .check → claimOf s .start ≡ delimiter (h .«frame_type») (h .long) → (xs : List ℕ)
-      → checkFrom (delimiter (h .«frame_type») (h .long)) (take (claimOf s .address) bs ++ (claimOf s .command ∷ claimOf s .count ∷ take (claimOf s .loaded) (drop 5 bs))) ≡ checkFrom (delimiter (h .«frame_type») (h .long)) xs
-      → headOf (h .«frame_type») (h .long) (check (delimiter (h .«frame_type») (h .long) ∷ xs)) ≡ h
+  summed : (h : Head) → claimOf s .check ≡ h .check → claimOf s .start ≡ delimiter (openingIn h) → (xs : List ℕ)
+      → checkFrom (delimiter (openingIn h)) (take (claimOf s .address) bs ++ (claimOf s .command ∷ claimOf s .count ∷ take (claimOf s .loaded) (drop headRoom bs))) ≡ checkFrom (delimiter (openingIn h)) xs
+      → headOf (openingIn h) (check (delimiter (openingIn h) ∷ xs)) ≡ h
   summed h c d xs e =
-      ap (headOf (h .«frame_type») (h .long)) (check-first (delimiter (h .«frame_type») (h .long)) xs ∙ sym (sym c ∙ right ∙ rw d e))
+      ap (headOf (openingIn h)) (check-first (delimiter (openingIn h)) xs ∙ sym (sym c ∙ summed-right ∙ rw d e))
 
-delimiter-byte : (h : Head) → delimiter (h .«frame_type») (h .long) < 256
-delimiter-byte h = omega (arith, delimiter-small (h .«frame_type») (h .long))
+delimiter-byte : (h : Head) → delimiter (openingIn h) < 256
+delimiter-byte h = omega (arith, delimiter-small (openingIn h))
 
-address-whole : (long : Bool) (bs : List ℕ) → length bs ≡ decoderRoom → length (take (addressLength long) bs) ≡ addressLength long
-address-whole long bs n = length-take-le (addressLength long) bs (omega (arith, address-length-le long))
+heading-whole : (o : Opening) (bs : List ℕ) → length bs ≡ decoderRoom → length (take (headLength o) bs) ≡ headLength o
+heading-whole o bs n = length-take-le (headLength o) bs (omega (arith, head-length-le o))
 
-data-whole : (m : ℕ) (bs : List ℕ) → length bs ≡ decoderRoom → m ≤ 255 → length (take m (drop 5 bs)) ≡ m
-data-whole m bs n h = length-take-le m (drop 5 bs) (omega (arith, length-drop 5 bs))
+data-whole : (m : ℕ) (bs : List ℕ) → length bs ≡ decoderRoom → m ≤ dataRoom → length (take m (drop headRoom bs)) ≡ m
+data-whole m bs n h = length-take-le m (drop headRoom bs) (omega (arith, length-drop headRoom bs))
 
 scanned-back : (d : Held) → Value d → reachable d ≡ true → Scanned d
 scanned-back d v r = by (d .state) (d .bytes) (v .state) (v .bytes) (v .whole) r
   where
     by : (s : State) (bs : List ℕ) → SmallState s → Bytes bs → length bs ≡ decoderRoom → reachableAt s bs ≡ true → Scanned (holding s bs)
-    by Hunting bs z k n q = record { scanner = hunt; fine = tt; is = ap (holding Hunting) (blank-array ∙ arrayed Hunting bs n q (omega arith)) }
+    by Hunting bs z k n q = record { scanner = hunt; fine = tt; is = ap (holding Hunting) (blank-array ∙ arrayed Hunting bs q (omega arith)) }
     by (Preamble m) bs z k n q =
-        let p = possible (Preamble m) bs n q in
-        let some : 0 < m = ltb-true 0 m (and-first (ltb 0 m) (leb m 5) p) in
-        let few : m ≤ 5 = leb-true m 5 (and-second (ltb 0 m) (leb m 5) p) in
-        let same : min m 5 ≡ m = omega arith in
-        record { scanner = pre m; fine = some; is = ap₂ (λ (i : ℕ) (xs : List ℕ). holding (Preamble i) xs) same (blank-array ∙ arrayed (Preamble m) bs n q (omega arith)) }
+        let p = possible (Preamble m) bs q in
+        let some : 0 < m = ltb-true 0 m (and-first (ltb 0 m) (leb m preambleCap) p) in
+        let few : m ≤ preambleCap = leb-true m preambleCap (and-second (ltb 0 m) (leb m preambleCap) p) in
+        let same : min m preambleCap ≡ m = omega arith in
+        record { scanner = pre m; fine = some; is = ap₂ (λ (i : ℕ) (xs : List ℕ). holding (Preamble i) xs) same (blank-array ∙ arrayed (Preamble m) bs q (omega arith)) }
     by (Address h k) bs z small n q =
         let s : State = Address h k in
-        let ad : List ℕ = take k bs in
-        let d : ℕ = delimiter (h .«frame_type») (h .long) in
-        let read : k < addressLength (h .long) = ltb-true k (addressLength (h .long)) (possible s bs n q) in
-        let count : length ad ≡ k = length-take-le k bs (omega (arith, address-length-le (h .long))) in
+        let hs : List ℕ = take k bs in
+        let d : ℕ = delimiter (openingIn h) in
+        let read : k < headLength (openingIn h) = ltb-true k (headLength (openingIn h)) (possible s bs q) in
+        let count : length hs ≡ k = length-take-le k bs (omega (arith, head-length-le (openingIn h))) in
         record {
-          scanner = within 5 (addressing (h .«frame_type») (h .long) ad);
+          scanner = within enough (addressing (openingIn h) hs);
           fine = (omega arith, omega (arith, read, count), (delimiter-byte h, bytes-take k bs small));
-          is = ap₂ (λ (g : Head) (i : ℕ). holding (Address g i) (array ad [])) (summed s bs n q h refl refl ad (sym (zeros-read d ad))) count
-              ∙ ap (holding s) (arrayed s bs n q (omega arith));
+          is = ap₂ (λ (g : Head) (i : ℕ). holding (Address g i) (array hs [])) (summed s bs q h refl refl hs (sym (zeros-read d hs))) count
+              ∙ ap (holding s) (arrayed s bs q (omega arith));
         }
     by (Command h) bs z small n q =
         let s : State = Command h in
-        let ad : List ℕ = take (addressLength (h .long)) bs in
-        let d : ℕ = delimiter (h .«frame_type») (h .long) in
+        let hs : List ℕ = take (headLength (openingIn h)) bs in
+        let d : ℕ = delimiter (openingIn h) in
         record {
-          scanner = within 5 (commanding (h .«frame_type») (h .long) ad);
-          fine = (omega arith, address-whole (h .long) bs n, (delimiter-byte h, bytes-take (addressLength (h .long)) bs small));
-          is = ap (λ (g : Head). holding (Command g) (array ad [])) (summed s bs n q h refl refl ad (sym (zeros-read d ad)))
-              ∙ ap (holding s) (arrayed s bs n q (omega arith));
+          scanner = within enough (commanding (openingIn h) hs);
+          fine = (omega arith, heading-whole (openingIn h) bs n, (delimiter-byte h, bytes-take (headLength (openingIn h)) bs small));
+          is = ap (λ (g : Head). holding (Command g) (array hs [])) (summed s bs q h refl refl hs (sym (zeros-read d hs)))
+              ∙ ap (holding s) (arrayed s bs q (omega arith));
         }
     by (ByteCount h c) bs z small n q =
         let s : State = ByteCount h c in
-        let ad : List ℕ = take (addressLength (h .long)) bs in
-        let d : ℕ = delimiter (h .«frame_type») (h .long) in
+        let hs : List ℕ = take (headLength (openingIn h)) bs in
+        let d : ℕ = delimiter (openingIn h) in
         record {
-          scanner = within 5 (counting (h .«frame_type») (h .long) ad c);
-          fine = (omega arith, address-whole (h .long) bs n, (delimiter-byte h, bytes-append ad (c ∷ []) (bytes-take (addressLength (h .long)) bs small) (z .1, tt)));
-          is = ap (λ (g : Head). holding (ByteCount g c) (array ad [])) (summed s bs n q h refl refl (ad ++ (c ∷ [])) (sym (zero-read d c ad)))
-              ∙ ap (holding s) (arrayed s bs n q (omega arith));
+          scanner = within enough (counting (openingIn h) hs c);
+          fine = (omega arith, heading-whole (openingIn h) bs n, (delimiter-byte h, bytes-append hs (c ∷ []) (bytes-take (headLength (openingIn h)) bs small) (z .1, tt)));
+          is = ap (λ (g : Head). holding (ByteCount g c) (array hs [])) (summed s bs q h refl refl (hs ++ (c ∷ [])) (sym (zero-read d c hs)))
+              ∙ ap (holding s) (arrayed s bs q (omega arith));
         }
     by (Data h c e m) bs z small n q =
         let s : State = Data h c e m in
-        let ad : List ℕ = take (addressLength (h .long)) bs in
-        let ds : List ℕ = take m (drop 5 bs) in
-        let read : m < e = ltb-true m e (possible s bs n q) in
+        let hs : List ℕ = take (headLength (openingIn h)) bs in
+        let ds : List ℕ = take m (drop headRoom bs) in
+        let read : m < e = ltb-true m e (possible s bs q) in
         let count : length ds ≡ m = data-whole m bs n (omega (arith, z .2)) in
         record {
-          scanner = within 5 (loading (h .«frame_type») (h .long) ad c e ds);
-          fine = (omega arith, (address-whole (h .long) bs n, omega (arith, read, count)), (delimiter-byte h, bytes-append ad (c ∷ e ∷ ds) (bytes-take (addressLength (h .long)) bs small) (z .1, (z .2, bytes-take m (drop 5 bs) (bytes-drop 5 bs small)))));
-          is = ap₂ (λ (g : Head) (i : ℕ). holding (Data g c e i) (array ad ds)) (summed s bs n q h refl refl (ad ++ (c ∷ e ∷ ds)) refl) count
-              ∙ ap (holding s) (arrayed s bs n q (omega (arith, z .2)));
+          scanner = within enough (loading (openingIn h) hs c e ds);
+          fine = (omega arith, (heading-whole (openingIn h) bs n, omega (arith, read, count)), (delimiter-byte h, bytes-append hs (c ∷ e ∷ ds) (bytes-take (headLength (openingIn h)) bs small) (z .1, (z .2, bytes-take m (drop headRoom bs) (bytes-drop headRoom bs small)))));
+          is = ap₂ (λ (g : Head) (i : ℕ). holding (Data g c e i) (array hs ds)) (summed s bs q h refl refl (hs ++ (c ∷ e ∷ ds)) refl) count
+              ∙ ap (holding s) (arrayed s bs q (omega (arith, z .2)));
         }
     by (Checksum h c e) bs z small n q =
         let s : State = Checksum h c e in
-        let ad : List ℕ = take (addressLength (h .long)) bs in
-        let ds : List ℕ = take e (drop 5 bs) in
-        let d : ℕ = delimiter (h .«frame_type») (h .long) in
+        let hs : List ℕ = take (headLength (openingIn h)) bs in
+        let ds : List ℕ = take e (drop headRoom bs) in
+        let d : ℕ = delimiter (openingIn h) in
         let count : length ds ≡ e = data-whole e bs n (omega (arith, z .2)) in
         record {
-          scanner = within 5 (checking (wire (h .«frame_type») (h .long) ad c ds));
+          scanner = within enough (checking (wire (openingIn h) hs c ds));
           fine = (
             omega arith,
-            record { addressFits = address-whole (h .long) bs n; countFits = omega (arith, count, z .2) },
-            (delimiter-byte h, bytes-append ad (c ∷ length ds ∷ ds) (bytes-take (addressLength (h .long)) bs small) (z .1, (omega (arith, count, z .2), bytes-take e (drop 5 bs) (bytes-drop 5 bs small)))),
+            record { headingFits = heading-whole (openingIn h) bs n; countFits = omega (arith, count, z .2) },
+            (delimiter-byte h, bytes-append hs (c ∷ length ds ∷ ds) (bytes-take (headLength (openingIn h)) bs small) (z .1, (omega (arith, count, z .2), bytes-take e (drop headRoom bs) (bytes-drop headRoom bs small)))),
           );
-          is = ap₂ (λ (g : Head) (i : ℕ). holding (Checksum g c i) (array ad ds)) (summed s bs n q h refl refl (ad ++ (c ∷ length ds ∷ ds)) (ap (λ (i : ℕ). checkFrom d (ad ++ (c ∷ i ∷ ds))) (sym count))) count
-              ∙ ap (holding s) (arrayed s bs n q (omega (arith, z .2)));
+          is = ap₂ (λ (g : Head) (i : ℕ). holding (Checksum g c i) (array hs ds)) (summed s bs q h refl refl (hs ++ (c ∷ length ds ∷ ds)) (ap (λ (i : ℕ). checkFrom d (hs ++ (c ∷ i ∷ ds))) (sym count))) count
+              ∙ ap (holding s) (arrayed s bs q (omega (arith, z .2)));
         }
 
 -- each value that a run leads to passes the test

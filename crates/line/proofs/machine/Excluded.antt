@@ -1,19 +1,18 @@
 -- The third demand excludes the wrong decoders that document 01 names, in whatever form a decoder comes; and what ours says along runs that
 -- would show them, and other wrong readings, by computing it byte for byte.
-use Prim.Native.Nat.{ℕ, _≤_}
+use Prim.Native.Nat.{ℕ, _+_, _≤_}
 use native.Mathlib.Omega.{arith}
 use mathlib.Core.Path.{_≡_, refl, sym, ap, ap₂, _∙_}
-use mathlib.Core.Bool.{false}
 use mathlib.Core.List.{List, [], _∷_, _++_, map, head-eq-of-cons-eq}
 use lib.ListN.{length}
-use Rattle.types.specs.declared.delimiter.FrameType.the-variants.{Request}
-use Rattle.types.specs.Delimiter.{delimiterOf}
-use Rattle.line.specs.Layout.{Wire, Fits, preambles}
+use Rattle.types.specs.Delimiter.{openingAt, delimiterOf}
+use Rattle.line.specs.Layout.{Wire, mostData, Fits, preambles}
 use Rattle.line.specs.Pieces.{Piece, noise, frame, Bytes, nothing, Cut}
 use Rattle.line.specs.Events.{silence, verdict, dictated, gather, framesIn}
 use Rattle.line.specs.Runs.{says}
 use Rattle.line.proofs.Bytes.{bytes-given}
 use Rattle.line.proofs.Scan.{wire}
+use Rattle.line.specs.machine.Step.{preambleCap}
 use Rattle.line.specs.machine.Frames.{frameOf, heardOf}
 use Rattle.line.specs.machine.Reachable.{reachableAt}
 use Rattle.line.specs.machine.Feed.{blank, fresh, stepped, feeding}
@@ -39,15 +38,15 @@ use Rattle.line.specs.declared.frame.Heard.{Heard}
 
 -- a request of the runs, as it stands on the line
 abbrev requestWire : ℕ → List ℕ → Wire
-requestWire command payload = wire Request false (0x80 ∷ []) command payload
+requestWire command payload = wire (openingAt 0x02) (0x80 ∷ []) command payload
 
-request-fits : (command : ℕ) (payload : List ℕ) → length payload ≤ 255 → Fits (requestWire command payload)
-request-fits command payload h = record { addressFits = refl; countFits = h }
+request-fits : (command : ℕ) (payload : List ℕ) → length payload ≤ mostData → Fits (requestWire command payload)
+request-fits command payload h = record { headingFits = refl; countFits = h }
 
 one-frame-cut : Cut oneFrame (frame 5 (requestWire 0 []) ∷ []) []
 one-frame-cut = record { pieces = ((omega arith, request-fits 0 [] (omega arith)), tt); rest = nothing; whole = refl }
 
-two-frames-cut : Cut twoFrames (frame 5 (requestWire 1 (0xAA ∷ 0x55 ∷ [])) ∷ frame 6 (requestWire 2 (0x33 ∷ [])) ∷ []) []
+two-frames-cut : Cut twoFrames (frame 5 (requestWire 1 (0xAA ∷ 0x55 ∷ [])) ∷ frame (preambleCap + 1) (requestWire 2 (0x33 ∷ [])) ∷ []) []
 two-frames-cut =
     record {
       pieces = ((omega arith, request-fits 1 (0xAA ∷ 0x55 ∷ []) (omega arith)), ((omega arith, request-fits 2 (0x33 ∷ []) (omega arith)), tt));
@@ -100,8 +99,8 @@ pub one-frame-heard : says hears fresh oneFrame ≡ silences 9 ++ (requestHeard 
 unfolding blank stepped feeding reachableAt delimiterOf
 one-frame-heard = refl
 
--- nothing of the first frame is left in the second, and an FF past five changes nothing
-pub two-frames-heard : says hears fresh twoFrames ≡ silences 11 ++ (requestHeard 1 (0xAA ∷ 0x55 ∷ []) ∷ (silences 11 ++ (requestHeard 2 (0x33 ∷ []) ∷ [])))
+-- nothing of the first frame is left in the second, and an FF past those that are counted changes nothing
+pub two-frames-heard : says hears fresh twoFrames ≡ silences 11 ++ (requestHeard 1 (0xAA ∷ 0x55 ∷ []) ∷ (silences (preambleCap + 6) ++ (requestHeard 2 (0x33 ∷ []) ∷ [])))
 unfolding blank stepped feeding reachableAt delimiterOf
 two-frames-heard = refl
 

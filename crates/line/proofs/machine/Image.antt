@@ -13,15 +13,15 @@ use lib.Seq.{set-append-left, take-at, drop-at}
 use borrow.Author.Tests.{eqb-true, eqb-false, eq-eqb, ne-eqb, ltb-true, ltb-false, lt-ltb, le-ltb, leb-true, leb-false, le-leb}
 use Rattle.octets.specs.Check.{check, checkFrom}
 use Rattle.octets.proofs.Check.{check-first, check-append, check-snoc, check-zeros}
-use Rattle.types.specs.declared.delimiter.FrameType.{FrameType}
+use Rattle.types.specs.declared.delimiter.Opening.{Opening}
 use Rattle.types.specs.declared.delimiter.Delimiter.{Delimiter}
 use Rattle.types.specs.declared.delimiter.Delimiter.the-variants.{Known, Unknown}
 use Rattle.types.specs.Delimiter.{delimiter, delimiterOf}
-use Rattle.types.specs.Address.{addressLength}
+use Rattle.types.specs.Address.{headLength, headRoom}
 use Rattle.types.proofs.Delimiters.{Right, delimiter-right}
-use Rattle.types.proofs.Addresses.{address-length-le}
+use Rattle.types.proofs.Addresses.{head-length-le}
 use Rattle.line.specs.Layout.{Wire, Fits, checkOf}
-use Rattle.line.specs.Pieces.{Bytes, Piece, noise, shortRun, frame, badCheck}
+use Rattle.line.specs.Pieces.{Bytes, Piece, noise, shortRun, frame, badCheck, enough}
 use Rattle.line.specs.Events.{Event, silence}
 use Rattle.line.proofs.Bytes.{bytes-right, one-more}
 use Rattle.line.proofs.Scan.{
@@ -45,9 +45,9 @@ use Rattle.line.proofs.Scan.{
   Sized,
   Fine,
 }
-use Rattle.line.specs.machine.Room.{decoderRoom}
+use Rattle.line.specs.machine.Room.{dataRoom, decoderRoom}
 use Rattle.line.specs.machine.Frames.{padded, wireAt}
-use Rattle.line.specs.machine.Step.{headOf, delimited}
+use Rattle.line.specs.machine.Step.{headOf, delimited, preambleCap}
 use Rattle.line.specs.machine.Reachable.{noClaim, claim, claimOf, isClear, isRight, reachableAt}
 use Rattle.line.specs.machine.Feed.{Held, holding, blank, fresh, reachable, settled, stepped, feeding}
 use Rattle.line.specs.declared.state.Head.{Head}
@@ -64,31 +64,31 @@ use Rattle.line.specs.declared.state.State.the-variants.{
 use Rattle.line.specs.declared.claim.Claim.{Claim}
 use Rattle.line.proofs.machine.Padded.{length-padded, padded-clear, padded-set, set-behind}
 
--- the 5 address bytes and the 255 data bytes
+-- the bytes before the command and those of the data, each filled up with zeros
 abbrev pub array : List ℕ → List ℕ → List ℕ
-array ad ds = padded 5 ad ++ padded 255 ds
+array hs ds = padded headRoom hs ++ padded dataRoom ds
 
 -- the running check is that of everything from the delimiter on
-abbrev pub headAt : FrameType → Bool → Phase → Head
-headAt t l p = headOf t l (check (opened p))
+abbrev pub headAt : Opening → Phase → Head
+headAt o p = headOf o (check (opened p))
 
 abbrev pub stateOf : Phase → State
-stateOf (addressing t l ad) = Address (headAt t l (addressing t l ad)) (length ad)
-stateOf (commanding t l ad) = Command (headAt t l (commanding t l ad))
-stateOf (counting t l ad c) = ByteCount (headAt t l (counting t l ad c)) c
-stateOf (loading t l ad c e ds) = Data (headAt t l (loading t l ad c e ds)) c e (length ds)
-stateOf (checking w) = Checksum (headAt (w .frameType) (w .long) (checking w)) (w .command) (length (w .payload))
+stateOf (addressing o hs) = Address (headAt o (addressing o hs)) (length hs)
+stateOf (commanding o hs) = Command (headAt o (commanding o hs))
+stateOf (counting o hs c) = ByteCount (headAt o (counting o hs c)) c
+stateOf (loading o hs c e ds) = Data (headAt o (loading o hs c e ds)) c e (length ds)
+stateOf (checking w) = Checksum (headAt (w .opening) (checking w)) (w .command) (length (w .payload))
 
 abbrev pub arrayOf : Phase → List ℕ
-arrayOf (addressing t l ad) = array ad []
-arrayOf (commanding t l ad) = array ad []
-arrayOf (counting t l ad c) = array ad []
-arrayOf (loading t l ad c e ds) = array ad ds
-arrayOf (checking w) = array (w .address) (w .payload)
+arrayOf (addressing o hs) = array hs []
+arrayOf (commanding o hs) = array hs []
+arrayOf (counting o hs c) = array hs []
+arrayOf (loading o hs c e ds) = array hs ds
+arrayOf (checking w) = array (w .heading) (w .payload)
 
 abbrev pub real : Scan → Held
 real hunt = fresh
-real (pre n) = holding (Preamble (min n 5)) blank
+real (pre n) = holding (Preamble (min n preambleCap)) blank
 real (within n p) = holding (stateOf p) (arrayOf p)
 
 -- what the scanner gives at a byte, as the decoder gives it
@@ -101,62 +101,62 @@ blank-array = refl
 
 -- ---- the image of a fine state passes the test
 
-module _ (ad ds : List ℕ) (short : length ad ≤ 5) where
-  take-array : take (length ad) (array ad ds) ≡ ad
-  take-array = ap (take (length ad)) (append-assoc ad (replicate (5 - length ad) 0) (padded 255 ds)) ∙ take-at ad (replicate (5 - length ad) 0 ++ padded 255 ds) (length ad) refl
+module _ (hs ds : List ℕ) (short : length hs ≤ headRoom) where
+  take-array : take (length hs) (array hs ds) ≡ hs
+  take-array = ap (take (length hs)) (append-assoc hs (replicate (headRoom - length hs) 0) (padded dataRoom ds)) ∙ take-at hs (replicate (headRoom - length hs) 0 ++ padded dataRoom ds) (length hs) refl
 
-  front-array : take 5 (array ad ds) ≡ padded 5 ad
-  front-array = take-at (padded 5 ad) (padded 255 ds) 5 (length-padded 5 ad short)
+  front-array : take headRoom (array hs ds) ≡ padded headRoom hs
+  front-array = take-at (padded headRoom hs) (padded dataRoom ds) headRoom (length-padded headRoom hs short)
 
-  back-array : drop 5 (array ad ds) ≡ padded 255 ds
-  back-array = drop-at (padded 5 ad) (padded 255 ds) 5 (length-padded 5 ad short)
+  back-array : drop headRoom (array hs ds) ≡ padded dataRoom ds
+  back-array = drop-at (padded headRoom hs) (padded dataRoom ds) headRoom (length-padded headRoom hs short)
 
-  take-back-array : take (length ds) (drop 5 (array ad ds)) ≡ ds
-  take-back-array = ap (take (length ds)) back-array ∙ take-at ds (replicate (255 - length ds) 0) (length ds) refl
+  take-back-array : take (length ds) (drop headRoom (array hs ds)) ≡ ds
+  take-back-array = ap (take (length ds)) back-array ∙ take-at ds (replicate (dataRoom - length ds) 0) (length ds) refl
 
-  clear-array : (q : Claim) → q .address ≡ length ad → q .loaded ≡ length ds → isClear q (array ad ds) ≡ true
-  clear-array q a n = rw (a, n, front-array, back-array, padded-clear 5 ad, padded-clear 255 ds)
+  clear-array : (q : Claim) → q .address ≡ length hs → q .loaded ≡ length ds → isClear q (array hs ds) ≡ true
+  clear-array q a n = rw (a, n, front-array, back-array, padded-clear headRoom hs, padded-clear dataRoom ds)
 
-  right-array : (q : Claim) → q .address ≡ length ad → q .loaded ≡ length ds → q .check ≡ checkFrom (q .start) (ad ++ (q .command ∷ q .count ∷ ds)) → isRight q (array ad ds) ≡ true
+  right-array : (q : Claim) → q .address ≡ length hs → q .loaded ≡ length ds → q .check ≡ checkFrom (q .start) (hs ++ (q .command ∷ q .count ∷ ds)) → isRight q (array hs ds) ≡ true
   right-array q a n e = rw (a, n, take-array, take-back-array) (eq-eqb (q .check) _ e)
 
-  pub whole-array : length ds ≤ 255 → length (array ad ds) ≡ decoderRoom
-  whole-array h = length-append (padded 5 ad) (padded 255 ds) ∙ omega (arith, length-padded 5 ad short, length-padded 255 ds h)
+  pub whole-array : length ds ≤ dataRoom → length (array hs ds) ≡ decoderRoom
+  whole-array h = length-append (padded headRoom hs) (padded dataRoom ds) ∙ omega (arith, length-padded headRoom hs short, length-padded dataRoom ds h)
 
-  passes-array : length ds ≤ 255 → (q : Claim) → q .possible ≡ true → q .address ≡ length ad → q .loaded ≡ length ds → q .check ≡ checkFrom (q .start) (ad ++ (q .command ∷ q .count ∷ ds))
-      → eqb (length (array ad ds)) decoderRoom && (q .possible && (isClear q (array ad ds) && isRight q (array ad ds))) ≡ true
-  passes-array h q p a n e = rw (eq-eqb (length (array ad ds)) decoderRoom (whole-array h), p, clear-array q a n, right-array q a n e)
+  passes-array : length ds ≤ dataRoom → (q : Claim) → q .possible ≡ true → q .address ≡ length hs → q .loaded ≡ length ds → q .check ≡ checkFrom (q .start) (hs ++ (q .command ∷ q .count ∷ ds))
+      → eqb (length (array hs ds)) decoderRoom && (q .possible && (isClear q (array hs ds) && isRight q (array hs ds))) ≡ true
+  passes-array h q p a n e = rw (eq-eqb (length (array hs ds)) decoderRoom (whole-array h), p, clear-array q a n, right-array q a n e)
 
 -- what was not read is zero and adds nothing to a check
-pub zeros-read : (x : ℕ) (ad : List ℕ) → checkFrom x ad ≡ checkFrom x (ad ++ (0 ∷ 0 ∷ []))
-zeros-read x ad = sym (check-append x ad (0 ∷ 0 ∷ []) ∙ check-zeros (checkFrom x ad) 2)
+pub zeros-read : (x : ℕ) (hs : List ℕ) → checkFrom x hs ≡ checkFrom x (hs ++ (0 ∷ 0 ∷ []))
+zeros-read x hs = sym (check-append x hs (0 ∷ 0 ∷ []) ∙ check-zeros (checkFrom x hs) 2)
 
-pub zero-read : (x c : ℕ) (ad : List ℕ) → checkFrom x (ad ++ (c ∷ [])) ≡ checkFrom x (ad ++ (c ∷ 0 ∷ []))
-zero-read x c ad = check-append x ad (c ∷ []) ∙ sym (check-append x ad (c ∷ 0 ∷ []) ∙ xor-zero-r (bitXor (checkFrom x ad) c))
+pub zero-read : (x c : ℕ) (hs : List ℕ) → checkFrom x (hs ++ (c ∷ [])) ≡ checkFrom x (hs ++ (c ∷ 0 ∷ []))
+zero-read x c hs = check-append x hs (c ∷ []) ∙ sym (check-append x hs (c ∷ 0 ∷ []) ∙ xor-zero-r (bitXor (checkFrom x hs) c))
 
 -- the count of the data is a byte
-count-byte : (ad : List ℕ) (c e : ℕ) (ds : List ℕ) {d : ℕ} → Bytes (d ∷ (ad ++ (c ∷ e ∷ ds))) → e < 256
-count-byte ad c e ds k = bytes-right ad (c ∷ e ∷ ds) (k .1) .1 .0
+count-byte : (hs : List ℕ) (c e : ℕ) (ds : List ℕ) {d : ℕ} → Bytes (d ∷ (hs ++ (c ∷ e ∷ ds))) → e < 256
+count-byte hs c e ds k = bytes-right hs (c ∷ e ∷ ds) (k .1) .1 .0
 
 reachable-phase : (p : Phase) → Sized p → Bytes (opened p) → reachableAt (stateOf p) (arrayOf p) ≡ true
 unfolding reachableAt
-reachable-phase (addressing t l ad) z k =
-    passes-array ad [] (omega (arith, address-length-le l)) (omega arith) (claim (ltb (length ad) (addressLength l)) (headAt t l (addressing t l ad)) (length ad) 0 0 0)
-    (lt-ltb (length ad) (addressLength l) z) refl refl (check-first (delimiter t l) ad ∙ zeros-read (delimiter t l) ad)
-reachable-phase (commanding t l ad) z k =
-    passes-array ad [] (omega (arith, z, address-length-le l)) (omega arith) (claim true (headAt t l (commanding t l ad)) (addressLength l) 0 0 0)
-    refl (sym z) refl (check-first (delimiter t l) ad ∙ zeros-read (delimiter t l) ad)
-reachable-phase (counting t l ad c) z k =
-    passes-array ad [] (omega (arith, z, address-length-le l)) (omega arith) (claim true (headAt t l (counting t l ad c)) (addressLength l) c 0 0)
-    refl (sym z) refl (check-first (delimiter t l) (ad ++ (c ∷ [])) ∙ zero-read (delimiter t l) c ad)
-reachable-phase (loading t l ad c e ds) z k =
-    passes-array ad ds (omega (arith, z .0, address-length-le l)) (omega (arith, z .1, count-byte ad c e ds k)) (claim (ltb (length ds) e) (headAt t l (loading t l ad c e ds)) (addressLength l) c e (length ds))
-    (lt-ltb (length ds) e (z .1)) (sym (z .0)) refl (check-first (delimiter t l) (ad ++ (c ∷ e ∷ ds)))
+reachable-phase (addressing o hs) z k =
+    passes-array hs [] (omega (arith, head-length-le o)) (omega arith) (claim (ltb (length hs) (headLength o)) (headAt o (addressing o hs)) (length hs) 0 0 0)
+    (lt-ltb (length hs) (headLength o) z) refl refl (check-first (delimiter o) hs ∙ zeros-read (delimiter o) hs)
+reachable-phase (commanding o hs) z k =
+    passes-array hs [] (omega (arith, z, head-length-le o)) (omega arith) (claim true (headAt o (commanding o hs)) (headLength o) 0 0 0)
+    refl (sym z) refl (check-first (delimiter o) hs ∙ zeros-read (delimiter o) hs)
+reachable-phase (counting o hs c) z k =
+    passes-array hs [] (omega (arith, z, head-length-le o)) (omega arith) (claim true (headAt o (counting o hs c)) (headLength o) c 0 0)
+    refl (sym z) refl (check-first (delimiter o) (hs ++ (c ∷ [])) ∙ zero-read (delimiter o) c hs)
+reachable-phase (loading o hs c e ds) z k =
+    passes-array hs ds (omega (arith, z .0, head-length-le o)) (omega (arith, z .1, count-byte hs c e ds k)) (claim (ltb (length ds) e) (headAt o (loading o hs c e ds)) (headLength o) c e (length ds))
+    (lt-ltb (length ds) e (z .1)) (sym (z .0)) refl (check-first (delimiter o) (hs ++ (c ∷ e ∷ ds)))
 reachable-phase (checking w) z k =
     let n : ℕ = length (w .payload) in
-    passes-array (w .address) (w .payload) (omega (arith, z .addressFits, address-length-le (w .long))) (z .countFits)
-    (claim true (headAt (w .frameType) (w .long) (checking w)) (addressLength (w .long)) (w .command) n n)
-    refl (sym (z .addressFits)) refl (check-first (delimiter (w .frameType) (w .long)) (w .address ++ (w .command ∷ n ∷ w .payload)))
+    passes-array (w .heading) (w .payload) (omega (arith, z .headingFits, head-length-le (w .opening))) (z .countFits)
+    (claim true (headAt (w .opening) (checking w)) (headLength (w .opening)) (w .command) n n)
+    refl (sym (z .headingFits)) refl (check-first (delimiter (w .opening)) (w .heading ++ (w .command ∷ n ∷ w .payload)))
 
 reachable-blank : (s : State) (p : Bool) → claimOf s ≡ noClaim p → p ≡ true → reachableAt s blank ≡ true
 unfolding reachableAt
@@ -165,94 +165,94 @@ reachable-blank s p e h = rw (e, blank-array) (passes-array [] [] (omega arith) 
 pub reachable-real : (s : Scan) → Fine s → reachable (real s) ≡ true
 reachable-real hunt f = reachable-blank Hunting true refl refl
 reachable-real (pre n) f =
-    let m : ℕ = min n 5 in
-    reachable-blank (Preamble m) (ltb 0 m && leb m 5) refl (rw (lt-ltb 0 m (omega arith), le-leb m 5 (omega arith)))
+    let m : ℕ = min n preambleCap in
+    reachable-blank (Preamble m) (ltb 0 m && leb m preambleCap) refl (rw (lt-ltb 0 m (omega arith), le-leb m preambleCap (omega arith)))
 reachable-real (within n p) f = reachable-phase p (f .1) (f .2)
 
 -- ---- a byte into the image
 
-module _ (t : FrameType) (l : Bool) (xs : List ℕ) (b : ℕ) where
+module _ (o : Opening) (xs : List ℕ) (b : ℕ) where
   -- the check with one byte more
-  mixed-snoc : headOf t l (bitXor (check xs) b) ≡ headOf t l (check (xs ++ (b ∷ [])))
-  mixed-snoc = ap (headOf t l) (sym (check-snoc 0 xs b))
+  mixed-snoc : headOf o (bitXor (check xs) b) ≡ headOf o (check (xs ++ (b ∷ [])))
+  mixed-snoc = ap (headOf o) (sym (check-snoc 0 xs b))
 
-store-address : (ad : List ℕ) (b : ℕ) → length ad < 5 → set (array ad []) (length ad) b ≡ array (ad ++ (b ∷ [])) []
-store-address ad b h =
-    set-append-left (padded 5 ad) (padded 255 []) (length ad) b (omega (arith, length-padded 5 ad (omega arith)))
-    ∙ ap (λ (xs : List ℕ). xs ++ padded 255 []) (padded-set 5 ad b h)
+store-address : (hs : List ℕ) (b : ℕ) → length hs < headRoom → set (array hs []) (length hs) b ≡ array (hs ++ (b ∷ [])) []
+store-address hs b h =
+    set-append-left (padded headRoom hs) (padded dataRoom []) (length hs) b (omega (arith, length-padded headRoom hs (omega arith)))
+    ∙ ap (λ (xs : List ℕ). xs ++ padded dataRoom []) (padded-set headRoom hs b h)
 
-store-data : (ad ds : List ℕ) (b : ℕ) → length ad ≤ 5 → length ds < 255 → set (array ad ds) (5 + length ds) b ≡ array ad (ds ++ (b ∷ []))
-store-data ad ds b h k =
-    set-behind (padded 5 ad) (padded 255 ds) 5 (length ds) b (length-padded 5 ad h) ∙ ap (λ (xs : List ℕ). padded 5 ad ++ xs) (padded-set 255 ds b k)
+store-data : (hs ds : List ℕ) (b : ℕ) → length hs ≤ headRoom → length ds < dataRoom → set (array hs ds) (headRoom + length ds) b ≡ array hs (ds ++ (b ∷ []))
+store-data hs ds b h k =
+    set-behind (padded headRoom hs) (padded dataRoom ds) headRoom (length ds) b (length-padded headRoom hs h) ∙ ap (λ (xs : List ℕ). padded headRoom hs ++ xs) (padded-set dataRoom ds b k)
 
-stepped-address : (n : ℕ) (t : FrameType) (l : Bool) (ad : List ℕ) (b : ℕ) → length ad < addressLength l
-    → stepped (real (within n (addressing t l ad))) b ≡ (real ((scan (within n (addressing t l ad)) b) .0), silence)
+stepped-address : (n : ℕ) (o : Opening) (hs : List ℕ) (b : ℕ) → length hs < headLength o
+    → stepped (real (within n (addressing o hs))) b ≡ (real ((scan (within n (addressing o hs)) b) .0), silence)
 unfolding stepped scan scanWithin
-stepped-address n t l ad b z =
-    one-more (λ (s : Scan). stepped (real (within n (addressing t l ad))) b ≡ (real s, silence)) ad b (addressLength l)
-    (within n (commanding t l (ad ++ (b ∷ [])))) (within n (addressing t l (ad ++ (b ∷ [])))) z
-    (λ full. rw (le-ltb (length ad + 1) (addressLength l) (omega (arith, longer, full)), stored, head))
-    (λ short. rw (lt-ltb (length ad + 1) (addressLength l) (omega (arith, longer, short)), stored, head, longer))
+stepped-address n o hs b z =
+    one-more (λ (s : Scan). stepped (real (within n (addressing o hs))) b ≡ (real s, silence)) hs b (headLength o)
+    (within n (commanding o (hs ++ (b ∷ [])))) (within n (addressing o (hs ++ (b ∷ [])))) z
+    (λ full. rw (le-ltb (length hs + 1) (headLength o) (omega (arith, longer, full)), stored, head))
+    (λ short. rw (lt-ltb (length hs + 1) (headLength o) (omega (arith, longer, short)), stored, head, longer))
   where
-    longer : length (ad ++ (b ∷ [])) ≡ length ad + 1
-    longer = length-append ad (b ∷ [])
+    longer : length (hs ++ (b ∷ [])) ≡ length hs + 1
+    longer = length-append hs (b ∷ [])
 
-    stored : set (array ad []) (length ad) b ≡ array (ad ++ (b ∷ [])) []
-    stored = store-address ad b (omega (arith, z, address-length-le l))
+    stored : set (array hs []) (length hs) b ≡ array (hs ++ (b ∷ [])) []
+    stored = store-address hs b (omega (arith, z, head-length-le o))
 
-    head : headOf t l (bitXor (check (delimiter t l ∷ ad)) b) ≡ headOf t l (check (delimiter t l ∷ (ad ++ (b ∷ []))))
-    head = mixed-snoc t l (delimiter t l ∷ ad) b
+    head : headOf o (bitXor (check (delimiter o ∷ hs)) b) ≡ headOf o (check (delimiter o ∷ (hs ++ (b ∷ []))))
+    head = mixed-snoc o (delimiter o ∷ hs) b
 
-stepped-command : (n : ℕ) (t : FrameType) (l : Bool) (ad : List ℕ) (b : ℕ) → stepped (real (within n (commanding t l ad))) b ≡ (real ((scan (within n (commanding t l ad)) b) .0), silence)
+stepped-command : (n : ℕ) (o : Opening) (hs : List ℕ) (b : ℕ) → stepped (real (within n (commanding o hs))) b ≡ (real ((scan (within n (commanding o hs)) b) .0), silence)
 unfolding stepped scan scanWithin
-stepped-command n t l ad b = rw (mixed-snoc t l (delimiter t l ∷ ad) b)
+stepped-command n o hs b = rw (mixed-snoc o (delimiter o ∷ hs) b)
 
 -- the check with one byte more behind the address
-pub sums-behind : (d : ℕ) (ad xs : List ℕ) (b : ℕ) → bitXor (check (d ∷ (ad ++ xs))) b ≡ check (d ∷ (ad ++ (xs ++ (b ∷ []))))
-sums-behind d ad xs b = sym (check-snoc 0 (d ∷ (ad ++ xs)) b) ∙ ap (λ (ys : List ℕ). check (d ∷ ys)) (append-assoc ad xs (b ∷ []))
+pub sums-behind : (d : ℕ) (hs xs : List ℕ) (b : ℕ) → bitXor (check (d ∷ (hs ++ xs))) b ≡ check (d ∷ (hs ++ (xs ++ (b ∷ []))))
+sums-behind d hs xs b = sym (check-snoc 0 (d ∷ (hs ++ xs)) b) ∙ ap (λ (ys : List ℕ). check (d ∷ ys)) (append-assoc hs xs (b ∷ []))
 
-behind : (t : FrameType) (l : Bool) (ad xs : List ℕ) (b : ℕ)
-    → headOf t l (bitXor (check (delimiter t l ∷ (ad ++ xs))) b) ≡ headOf t l (check (delimiter t l ∷ (ad ++ (xs ++ (b ∷ [])))))
-behind t l ad xs b = ap (headOf t l) (sums-behind (delimiter t l) ad xs b)
+behind : (o : Opening) (hs xs : List ℕ) (b : ℕ)
+    → headOf o (bitXor (check (delimiter o ∷ (hs ++ xs))) b) ≡ headOf o (check (delimiter o ∷ (hs ++ (xs ++ (b ∷ [])))))
+behind o hs xs b = ap (headOf o) (sums-behind (delimiter o) hs xs b)
 
-stepped-count : (n : ℕ) (t : FrameType) (l : Bool) (ad : List ℕ) (c b : ℕ) → stepped (real (within n (counting t l ad c))) b ≡ (real ((scan (within n (counting t l ad c)) b) .0), silence)
+stepped-count : (n : ℕ) (o : Opening) (hs : List ℕ) (c b : ℕ) → stepped (real (within n (counting o hs c))) b ≡ (real ((scan (within n (counting o hs c)) b) .0), silence)
 unfolding stepped scan scanWithin
-stepped-count n t l ad c b = by (eqb 0 b) refl
+stepped-count n o hs c b = by (eqb 0 b) refl
   where
-    head : headOf t l (bitXor (check (delimiter t l ∷ (ad ++ (c ∷ [])))) b) ≡ headOf t l (check (delimiter t l ∷ (ad ++ (c ∷ b ∷ []))))
-    head = behind t l ad (c ∷ []) b
+    head : headOf o (bitXor (check (delimiter o ∷ (hs ++ (c ∷ [])))) b) ≡ headOf o (check (delimiter o ∷ (hs ++ (c ∷ b ∷ []))))
+    head = behind o hs (c ∷ []) b
 
-    by : (y : Bool) → eqb 0 b ≡ y → stepped (real (within n (counting t l ad c))) b ≡ (real (cond y (within n (checking (wire t l ad c []))) (within n (loading t l ad c b []))), silence)
+    by : (y : Bool) → eqb 0 b ≡ y → stepped (real (within n (counting o hs c))) b ≡ (real (cond y (within n (checking (wire o hs c []))) (within n (loading o hs c b []))), silence)
     by true e =
         let z : b ≡ 0 = sym (eqb-true 0 b e) in
         rw (head, z)
     by false e = rw (head, ne-eqb b 0 (λ z. eqb-false 0 b e (sym z)))
 
-stepped-data : (n : ℕ) (t : FrameType) (l : Bool) (ad : List ℕ) (c m : ℕ) (ds : List ℕ) (b : ℕ) → length ad ≡ addressLength l → length ds < m → m < 256
-    → stepped (real (within n (loading t l ad c m ds))) b ≡ (real ((scan (within n (loading t l ad c m ds)) b) .0), silence)
+stepped-data : (n : ℕ) (o : Opening) (hs : List ℕ) (c m : ℕ) (ds : List ℕ) (b : ℕ) → length hs ≡ headLength o → length ds < m → m < 256
+    → stepped (real (within n (loading o hs c m ds))) b ≡ (real ((scan (within n (loading o hs c m ds)) b) .0), silence)
 unfolding stepped scan scanWithin
-stepped-data n t l ad c m ds b a z small =
-    one-more (λ (s : Scan). stepped (real (within n (loading t l ad c m ds))) b ≡ (real s, silence)) ds b m
-    (within n (checking (wire t l ad c (ds ++ (b ∷ []))))) (within n (loading t l ad c m (ds ++ (b ∷ [])))) z
+stepped-data n o hs c m ds b a z small =
+    one-more (λ (s : Scan). stepped (real (within n (loading o hs c m ds))) b ≡ (real s, silence)) ds b m
+    (within n (checking (wire o hs c (ds ++ (b ∷ []))))) (within n (loading o hs c m (ds ++ (b ∷ [])))) z
     (λ full. rw (le-ltb (length ds + 1) m (omega (arith, longer, full)), stored)
-    (ap (λ (h : Head). (holding (Checksum h c m) (array ad (ds ++ (b ∷ []))), silence)) head
-    ∙ ap (λ (k : ℕ). (holding (Checksum (headOf t l (check (delimiter t l ∷ (ad ++ (c ∷ k ∷ (ds ++ (b ∷ []))))))) c k) (array ad (ds ++ (b ∷ []))), silence)) (sym full)))
+    (ap (λ (h : Head). (holding (Checksum h c m) (array hs (ds ++ (b ∷ []))), silence)) head
+    ∙ ap (λ (k : ℕ). (holding (Checksum (headOf o (check (delimiter o ∷ (hs ++ (c ∷ k ∷ (ds ++ (b ∷ []))))))) c k) (array hs (ds ++ (b ∷ []))), silence)) (sym full)))
     (λ short. rw (lt-ltb (length ds + 1) m (omega (arith, longer, short)), stored, head, longer))
   where
     longer : length (ds ++ (b ∷ [])) ≡ length ds + 1
     longer = length-append ds (b ∷ [])
 
-    stored : set (array ad ds) (5 + length ds) b ≡ array ad (ds ++ (b ∷ []))
-    stored = store-data ad ds b (omega (arith, a, address-length-le l)) (omega arith)
+    stored : set (array hs ds) (headRoom + length ds) b ≡ array hs (ds ++ (b ∷ []))
+    stored = store-data hs ds b (omega (arith, a, head-length-le o)) (omega arith)
 
-    head : headOf t l (bitXor (check (delimiter t l ∷ (ad ++ (c ∷ m ∷ ds)))) b) ≡ headOf t l (check (delimiter t l ∷ (ad ++ (c ∷ m ∷ (ds ++ (b ∷ []))))))
-    head = behind t l ad (c ∷ m ∷ ds) b
+    head : headOf o (bitXor (check (delimiter o ∷ (hs ++ (c ∷ m ∷ ds)))) b) ≡ headOf o (check (delimiter o ∷ (hs ++ (c ∷ m ∷ (ds ++ (b ∷ []))))))
+    head = behind o hs (c ∷ m ∷ ds) b
 
 -- at its check byte the arrays hold the frame
-wire-back : (w : Wire) → Fits w → wireAt (headAt (w .frameType) (w .long) (checking w)) (w .command) (length (w .payload)) (array (w .address) (w .payload)) ≡ w
+wire-back : (w : Wire) → Fits w → wireAt (headAt (w .opening) (checking w)) (w .command) (length (w .payload)) (array (w .heading) (w .payload)) ≡ w
 wire-back w f =
-    let short : length (w .address) ≤ 5 = omega (arith, f .addressFits, address-length-le (w .long)) in
-    rw (sym (f .addressFits), take-array (w .address) (w .payload) short, take-back-array (w .address) (w .payload) short)
+    let short : length (w .heading) ≤ headRoom = omega (arith, f .headingFits, head-length-le (w .opening)) in
+    rw (sym (f .headingFits), take-array (w .heading) (w .payload) short, take-back-array (w .heading) (w .payload) short)
 
 stepped-check : (n : ℕ) (w : Wire) (b : ℕ) → Fits w → stepped (real (within n (checking w))) b ≡ (fresh, told (some (closed n w b)))
 unfolding stepped
@@ -263,7 +263,7 @@ stepped-check n w b f = by (eqb b (checkOf w)) refl
     by false e = rw e
 
 stepped-delimiter : (n b : ℕ) (d : Delimiter) → Right b d → settled (delimited b d) blank ≡ image (scanEnter n b d)
-stepped-delimiter n b (Known t l) e = rw (blank-array, check-first (delimiter t l) [], sym e)
+stepped-delimiter n b (Known o) e = rw (blank-array, check-first (delimiter o) [], sym e)
 stepped-delimiter n b Unknown e = refl
 
 stepped-preamble : (n b : ℕ) → stepped (real (pre n)) b ≡ image (scan (pre n) b)
@@ -271,19 +271,19 @@ unfolding stepped scan
 stepped-preamble n b = by (eqb b 0xFF) refl
   where
     -- the count that the byte leaves is held to the scanner's, whichever it is
-    saturates : (y : Bool) → ltb (min n 5) 5 ≡ y → eqb b 0xFF ≡ true → stepped (real (pre n)) b ≡ image (pre (suc n), none)
-    saturates true e more = rw (more, e) (ap (λ (k : ℕ). (holding (Preamble k) blank, silence)) (omega (arith, ltb-true (min n 5) 5 e)))
-    saturates false e more = rw (more, e) (ap (λ (k : ℕ). (holding (Preamble k) blank, silence)) (omega (arith, ltb-false (min n 5) 5 e)))
+    saturates : (y : Bool) → ltb (min n preambleCap) preambleCap ≡ y → eqb b 0xFF ≡ true → stepped (real (pre n)) b ≡ image (pre (suc n), none)
+    saturates true e more = rw (more, e) (ap (λ (k : ℕ). (holding (Preamble k) blank, silence)) (omega (arith, ltb-true (min n preambleCap) preambleCap e)))
+    saturates false e more = rw (more, e) (ap (λ (k : ℕ). (holding (Preamble k) blank, silence)) (omega (arith, ltb-false (min n preambleCap) preambleCap e)))
 
-    by′ : (y : Bool) → leb 5 n ≡ y → eqb b 0xFF ≡ false
+    by′ : (y : Bool) → leb enough n ≡ y → eqb b 0xFF ≡ false
         → stepped (real (pre n)) b ≡ image (cond y (scanEnter n b (delimiterOf b)) (hunt, some (shortRun n b)))
-    by′ true e other = rw (other, le-ltb (min n 5) 5 (omega (arith, leb-true 5 n e))) (stepped-delimiter n b (delimiterOf b) (delimiter-right b))
-    by′ false e other = rw (other, lt-ltb (min n 5) 5 (omega (arith, leb-false 5 n e)))
+    by′ true e other = rw (other, le-ltb (min n preambleCap) enough (omega (arith, leb-true enough n e))) (stepped-delimiter n b (delimiterOf b) (delimiter-right b))
+    by′ false e other = rw (other, lt-ltb (min n preambleCap) enough (omega (arith, leb-false enough n e)))
 
     by : (y : Bool) → eqb b 0xFF ≡ y
-        → stepped (real (pre n)) b ≡ image (cond y (pre (suc n), none) (cond (leb 5 n) (scanEnter n b (delimiterOf b)) (hunt, some (shortRun n b))))
-    by true e = saturates (ltb (min n 5) 5) refl e
-    by false e = by′ (leb 5 n) refl e
+        → stepped (real (pre n)) b ≡ image (cond y (pre (suc n), none) (cond (leb enough n) (scanEnter n b (delimiterOf b)) (hunt, some (shortRun n b))))
+    by true e = saturates (ltb (min n preambleCap) preambleCap) refl e
+    by false e = by′ (leb enough n) refl e
 
 stepped-hunt : (b : ℕ) → stepped fresh b ≡ image (scan hunt b)
 unfolding stepped scan
@@ -298,10 +298,10 @@ pub stepped-real : (s : Scan) (b : ℕ) → Fine s → stepped (real s) b ≡ (r
 unfolding scan scanWithin
 stepped-real hunt b f = stepped-hunt b
 stepped-real (pre n) b f = stepped-preamble n b
-stepped-real (within n (addressing t l ad)) b f = stepped-address n t l ad b (f .1)
-stepped-real (within n (commanding t l ad)) b f = stepped-command n t l ad b
-stepped-real (within n (counting t l ad c)) b f = stepped-count n t l ad c b
-stepped-real (within n (loading t l ad c m ds)) b f = stepped-data n t l ad c m ds b (f .1 .0) (f .1 .1) (count-byte ad c m ds (f .2))
+stepped-real (within n (addressing o hs)) b f = stepped-address n o hs b (f .1)
+stepped-real (within n (commanding o hs)) b f = stepped-command n o hs b
+stepped-real (within n (counting o hs c)) b f = stepped-count n o hs c b
+stepped-real (within n (loading o hs c m ds)) b f = stepped-data n o hs c m ds b (f .1 .0) (f .1 .1) (count-byte hs c m ds (f .2))
 stepped-real (within n (checking w)) b f = stepped-check n w b (f .1)
 
 pub follows : (s : Scan) (b : ℕ) → Fine s → b < 256 → feeding (real s) b ≡ (real ((scan s b) .0), told ((scan s b) .1))

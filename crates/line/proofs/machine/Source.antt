@@ -16,15 +16,15 @@ use borrow.Author.Tests.{eqb-true, eqb-false, eq-eqb, ne-eqb, lt-ltb, le-ltb, le
 use Rattle.octets.specs.Check.{check}
 use Rattle.octets.proofs.Check.{check-first, check-snoc}
 use Rattle.refusal.specs.declared.Refusal.the-variants.{InvalidDelimiter}
-use Rattle.types.specs.declared.delimiter.FrameType.{FrameType}
+use Rattle.types.specs.declared.delimiter.Opening.{Opening}
 use Rattle.types.specs.declared.delimiter.FrameType.the-variants.{Request, Response, Burst}
 use Rattle.types.specs.declared.delimiter.Delimiter.{Delimiter}
 use Rattle.types.specs.declared.delimiter.Delimiter.the-variants.{Known, Unknown}
-use Rattle.types.specs.Delimiter.{delimiter, delimiterOf}
-use Rattle.types.specs.Address.{addressLength}
-use Rattle.types.proofs.Delimiters.{Right, delimiter-right}
+use Rattle.types.specs.Delimiter.{opening, delimiter, delimiterOf}
+use Rattle.types.specs.Address.{addressLength, headLength}
+use Rattle.types.proofs.Delimiters.{Right, delimiter-right, six-delimiters}
 use Rattle.line.specs.Layout.{Wire, Fits, preambles, checkOf}
-use Rattle.line.specs.Pieces.{Piece, noise, shortRun, frame, badCheck, Bytes}
+use Rattle.line.specs.Pieces.{Piece, noise, shortRun, frame, badCheck, enough, Bytes}
 use Rattle.line.proofs.Bytes.{bytes-left, bytes-right, one-more}
 use Rattle.line.proofs.Scan.{
   Phase,
@@ -46,36 +46,41 @@ use Rattle.line.proofs.Scan.{
   Fine,
 }
 use Rattle.line.proofs.Exists.{fine-scan}
+use Rattle.line.specs.machine.Room.{dataRoom}
 use Rattle.line.specs.machine.Frames.{padded, heardOf}
 use Rattle.line.specs.machine.Feed.{fresh}
 use Rattle.line.specs.machine.Demand.{hears, Call, feeds, resets, heardAlong}
 use Rattle.octets.specs.Source.{stops}
 use Rattle.line.specs.machine.Source.{SourceState, preamble, address, command, byteCount, loading, checksum, SourceDecoder, Result, okNone, err, SourceRun, comesTo, sourceNew, goto, begin, processDelimiter, sourceFeed, stopped, returned, before, next, traced, resultOf, SmallCalls, firstRun, laterRuns, runsOf}
-use Rattle.types.proofs.Addresses.{address-length-le}
+use Rattle.types.proofs.Addresses.{head-length-le, read-taken}
 use Rattle.line.proofs.machine.Padded.{length-padded, padded-set}
 use Rattle.line.proofs.machine.Image.{real, sums-behind, follows}
 use Rattle.line.proofs.machine.SourceAddress.{address-whole-same}
 
+-- the Rust's `addr_buf` is as long as a long address
+abbrev sourceRoom : ℕ
+sourceRoom = addressLength true
+
 -- the Rust's decoder where the scanner stands
-abbrev inFrame : SourceState → FrameType → Bool → List ℕ → ℕ → ℕ → List ℕ → SourceDecoder
-inFrame s t l ad c x ds = record {
+abbrev inFrame : SourceState → Opening → List ℕ → ℕ → ℕ → List ℕ → SourceDecoder
+inFrame s o hs c x ds = record {
   state = s;
-  frameType = some t;
-  isLong = l;
-  addrBuf = padded 5 ad;
-  addrLen = addressLength l;
-  addrIdx = length ad;
+  frameType = some (o .«frame_type»);
+  isLong = o .«is_long»;
+  addrBuf = padded sourceRoom hs;
+  addrLen = headLength o;
+  addrIdx = length hs;
   commandByte = c;
   sum = x;
   payload = ds;
 }
 
 abbrev sourceAt : Phase → SourceDecoder
-sourceAt (addressing t l ad) = inFrame (address (addressLength l - length ad)) t l ad 0 (check (delimiter t l ∷ ad)) []
-sourceAt (commanding t l ad) = inFrame command t l ad 0 (check (delimiter t l ∷ ad)) []
-sourceAt (counting t l ad c) = inFrame byteCount t l ad c (check (delimiter t l ∷ (ad ++ (c ∷ [])))) []
-sourceAt (loadingPhase t l ad c e ds) = inFrame (loading (e - length ds)) t l ad c (check (delimiter t l ∷ (ad ++ (c ∷ e ∷ ds)))) ds
-sourceAt (checking w) = inFrame checksum (w .frameType) (w .long) (w .address) (w .command) (checkOf w) (w .payload)
+sourceAt (addressing o hs) = inFrame (address (headLength o - length hs)) o hs 0 (check (delimiter o ∷ hs)) []
+sourceAt (commanding o hs) = inFrame command o hs 0 (check (delimiter o ∷ hs)) []
+sourceAt (counting o hs c) = inFrame byteCount o hs c (check (delimiter o ∷ (hs ++ (c ∷ [])))) []
+sourceAt (loadingPhase o hs c e ds) = inFrame (loading (e - length ds)) o hs c (check (delimiter o ∷ (hs ++ (c ∷ e ∷ ds)))) ds
+sourceAt (checking w) = inFrame checksum (w .opening) (w .heading) (w .command) (checkOf w) (w .payload)
 
 abbrev sourceOf : Scan → SourceDecoder
 sourceOf hunt = sourceNew
@@ -86,56 +91,56 @@ sourceOf (within n p) = sourceAt p
 abbrev sourceImage : Scan × Option Piece → SourceRun
 sourceImage r = comesTo (sourceOf (r .0)) (resultOf (heardOf (told (r .1))))
 
-source-address : (n : ℕ) (t : FrameType) (l : Bool) (ad : List ℕ) (b : ℕ) → length ad < addressLength l
-    → sourceFeed (sourceOf (within n (addressing t l ad))) b ≡ sourceImage (scan (within n (addressing t l ad)) b)
+source-address : (n : ℕ) (o : Opening) (hs : List ℕ) (b : ℕ) → length hs < headLength o
+    → sourceFeed (sourceOf (within n (addressing o hs))) b ≡ sourceImage (scan (within n (addressing o hs)) b)
 unfolding sourceFeed scan scanWithin
-source-address n t l ad b z =
-    one-more (λ (s : Scan). sourceFeed (sourceOf (within n (addressing t l ad))) b ≡ sourceImage (s, none)) ad b (addressLength l)
-    (within n (commanding t l (ad ++ (b ∷ [])))) (within n (addressing t l (ad ++ (b ∷ [])))) z
-    (λ full. rw (room, fits, le-leb (addressLength l) (length ad + 1) (omega (arith, longer, full)), padded-set 5 ad b short, sums, longer))
-    (λ more. rw (room, fits, lt-leb (addressLength l) (length ad + 1) (omega (arith, longer, more)), le-leb (length ad + 1) (addressLength l) (omega (arith, longer, more)), padded-set 5 ad b short, sums, longer))
+source-address n o hs b z =
+    one-more (λ (s : Scan). sourceFeed (sourceOf (within n (addressing o hs))) b ≡ sourceImage (s, none)) hs b (headLength o)
+    (within n (commanding o (hs ++ (b ∷ [])))) (within n (addressing o (hs ++ (b ∷ [])))) z
+    (λ full. rw (room, fits, le-leb (headLength o) (length hs + 1) (omega (arith, longer, full)), padded-set sourceRoom hs b short, sums, longer))
+    (λ more. rw (room, fits, lt-leb (headLength o) (length hs + 1) (omega (arith, longer, more)), le-leb (length hs + 1) (headLength o) (omega (arith, longer, more)), padded-set sourceRoom hs b short, sums, longer))
   where
-    longer : length (ad ++ (b ∷ [])) ≡ length ad + 1
-    longer = length-append ad (b ∷ [])
+    longer : length (hs ++ (b ∷ [])) ≡ length hs + 1
+    longer = length-append hs (b ∷ [])
 
-    short : length ad < 5
-    short = omega (arith, z, address-length-le l)
+    short : length hs < sourceRoom
+    short = omega (arith, z, head-length-le o)
 
-    room : ltb (length ad) (length (padded 5 ad)) ≡ true
-    room = lt-ltb (length ad) (length (padded 5 ad)) (omega (arith, short, length-padded 5 ad (omega (arith, short))))
+    room : ltb (length hs) (length (padded sourceRoom hs)) ≡ true
+    room = lt-ltb (length hs) (length (padded sourceRoom hs)) (omega (arith, short, length-padded sourceRoom hs (omega (arith, short))))
 
-    fits : ltb (length ad + 1) 256 ≡ true
-    fits = lt-ltb (length ad + 1) 256 (omega (arith, short))
+    fits : ltb (length hs + 1) 256 ≡ true
+    fits = lt-ltb (length hs + 1) 256 (omega (arith, short))
 
-    sums : bitXor (check (delimiter t l ∷ ad)) b ≡ check (delimiter t l ∷ (ad ++ (b ∷ [])))
-    sums = sym (check-snoc 0 (delimiter t l ∷ ad) b)
+    sums : bitXor (check (delimiter o ∷ hs)) b ≡ check (delimiter o ∷ (hs ++ (b ∷ [])))
+    sums = sym (check-snoc 0 (delimiter o ∷ hs) b)
 
-source-command : (n : ℕ) (t : FrameType) (l : Bool) (ad : List ℕ) (b : ℕ)
-    → sourceFeed (sourceOf (within n (commanding t l ad))) b ≡ sourceImage (scan (within n (commanding t l ad)) b)
+source-command : (n : ℕ) (o : Opening) (hs : List ℕ) (b : ℕ)
+    → sourceFeed (sourceOf (within n (commanding o hs))) b ≡ sourceImage (scan (within n (commanding o hs)) b)
 unfolding sourceFeed scan scanWithin
-source-command n t l ad b = rw (sym (check-snoc 0 (delimiter t l ∷ ad) b))
+source-command n o hs b = rw (sym (check-snoc 0 (delimiter o ∷ hs) b))
 
-source-count : (n : ℕ) (t : FrameType) (l : Bool) (ad : List ℕ) (c b : ℕ)
-    → sourceFeed (sourceOf (within n (counting t l ad c))) b ≡ sourceImage (scan (within n (counting t l ad c)) b)
+source-count : (n : ℕ) (o : Opening) (hs : List ℕ) (c b : ℕ)
+    → sourceFeed (sourceOf (within n (counting o hs c))) b ≡ sourceImage (scan (within n (counting o hs c)) b)
 unfolding sourceFeed scan scanWithin
-source-count n t l ad c b = by (eqb 0 b) refl
+source-count n o hs c b = by (eqb 0 b) refl
   where
-    sums : bitXor (check (delimiter t l ∷ (ad ++ (c ∷ [])))) b ≡ check (delimiter t l ∷ (ad ++ (c ∷ b ∷ [])))
-    sums = sums-behind (delimiter t l) ad (c ∷ []) b
+    sums : bitXor (check (delimiter o ∷ (hs ++ (c ∷ [])))) b ≡ check (delimiter o ∷ (hs ++ (c ∷ b ∷ [])))
+    sums = sums-behind (delimiter o) hs (c ∷ []) b
 
     by : (y : Bool) → eqb 0 b ≡ y
-        → sourceFeed (sourceOf (within n (counting t l ad c))) b ≡ sourceImage (cond y (within n (checking (wire t l ad c []))) (within n (loadingPhase t l ad c b [])), none)
+        → sourceFeed (sourceOf (within n (counting o hs c))) b ≡ sourceImage (cond y (within n (checking (wire o hs c []))) (within n (loadingPhase o hs c b [])), none)
     by true e = let z : b ≡ 0 = sym (eqb-true 0 b e) in rw (sums, z)
     by false e =
         let whole : b - 0 ≡ b = omega arith in
         rw (sums, ne-eqb b 0 (λ z. eqb-false 0 b e (sym z)), whole)
 
-source-data : (n : ℕ) (t : FrameType) (l : Bool) (ad : List ℕ) (c m : ℕ) (ds : List ℕ) (b : ℕ) → length ds < m → m < 256
-    → sourceFeed (sourceOf (within n (loadingPhase t l ad c m ds))) b ≡ sourceImage (scan (within n (loadingPhase t l ad c m ds)) b)
+source-data : (n : ℕ) (o : Opening) (hs : List ℕ) (c m : ℕ) (ds : List ℕ) (b : ℕ) → length ds < m → m < 256
+    → sourceFeed (sourceOf (within n (loadingPhase o hs c m ds))) b ≡ sourceImage (scan (within n (loadingPhase o hs c m ds)) b)
 unfolding sourceFeed scan scanWithin
-source-data n t l ad c m ds b z small =
-    one-more (λ (s : Scan). sourceFeed (sourceOf (within n (loadingPhase t l ad c m ds))) b ≡ sourceImage (s, none)) ds b m
-    (within n (checking (wire t l ad c (ds ++ (b ∷ []))))) (within n (loadingPhase t l ad c m (ds ++ (b ∷ [])))) z
+source-data n o hs c m ds b z small =
+    one-more (λ (s : Scan). sourceFeed (sourceOf (within n (loadingPhase o hs c m ds))) b ≡ sourceImage (s, none)) ds b m
+    (within n (checking (wire o hs c (ds ++ (b ∷ []))))) (within n (loadingPhase o hs c m (ds ++ (b ∷ [])))) z
     (λ full. rw (some-left, room, sums, eq-eqb (m - length ds - 1) 0 (omega (arith, longer, full)), full))
     (λ short. rw (some-left, room, sums, ne-eqb (m - length ds - 1) 0 (omega (arith, longer, short)), left))
   where
@@ -148,48 +153,56 @@ source-data n t l ad c m ds b z small =
     some-left : leb 1 (m - length ds) ≡ true
     some-left = le-leb 1 (m - length ds) (omega arith)
 
-    sums : bitXor (check (delimiter t l ∷ (ad ++ (c ∷ m ∷ ds)))) b ≡ check (delimiter t l ∷ (ad ++ (c ∷ m ∷ (ds ++ (b ∷ [])))))
-    sums = sums-behind (delimiter t l) ad (c ∷ m ∷ ds) b
+    sums : bitXor (check (delimiter o ∷ (hs ++ (c ∷ m ∷ ds)))) b ≡ check (delimiter o ∷ (hs ++ (c ∷ m ∷ (ds ++ (b ∷ [])))))
+    sums = sums-behind (delimiter o) hs (c ∷ m ∷ ds) b
 
     left : m - length ds - 1 ≡ m - length (ds ++ (b ∷ []))
     left = omega (arith, longer)
 
-source-check : (n : ℕ) (w : Wire) (b : ℕ) → Fits w → Bytes (w .address) → sourceFeed (sourceOf (within n (checking w))) b ≡ sourceImage (hunt, some (closed n w b))
+source-check : (n : ℕ) (w : Wire) (b : ℕ) → Fits w → Bytes (w .heading) → sourceFeed (sourceOf (within n (checking w))) b ≡ sourceImage (hunt, some (closed n w b))
 unfolding sourceFeed
 source-check n w b f k = by (eqb b (checkOf w)) refl
   where
     by : (y : Bool) → eqb b (checkOf w) ≡ y → sourceFeed (sourceOf (within n (checking w))) b ≡ sourceImage (hunt, some (cond y (frame n w) (badCheck n w b)))
     by true e =
-        let short : addressLength (w .long) ≤ 5 = address-length-le (w .long) in
-        let padding : length (padded 5 (w .address)) ≡ 5 = length-padded 5 (w .address) (omega (arith, short, f .addressFits)) in
-        let part : take (addressLength (w .long)) (padded 5 (w .address)) ≡ w .address = take-at (w .address) (replicate (5 - length (w .address)) 0) (addressLength (w .long)) (f .addressFits) in
-        let loaded : take (length (w .payload)) (padded 255 (w .payload)) ≡ w .payload = take-at (w .payload) (replicate (255 - length (w .payload)) 0) (length (w .payload)) refl in
-        rw (e, le-leb (addressLength (w .long)) (length (padded 5 (w .address))) (omega (arith, short, padding)), part, address-whole-same (w .address) (w .long) (omega (arith, f .addressFits)) k, loaded)
+        let o = w .opening in
+        let short : headLength o ≤ sourceRoom = head-length-le o in
+        let padding : length (padded sourceRoom (w .heading)) ≡ sourceRoom = length-padded sourceRoom (w .heading) (omega (arith, short, f .headingFits)) in
+        let part : take (headLength o) (padded sourceRoom (w .heading)) ≡ w .heading = take-at (w .heading) (replicate (sourceRoom - length (w .heading)) 0) (headLength o) (f .headingFits) in
+        let loaded : take (length (w .payload)) (padded dataRoom (w .payload)) ≡ w .payload = take-at (w .payload) (replicate (dataRoom - length (w .payload)) 0) (length (w .payload)) refl in
+        rw (e, le-leb (headLength o) (length (padded sourceRoom (w .heading))) (omega (arith, short, padding)), part, address-whole-same (w .heading) (o .«is_long») (omega (arith, f .headingFits)) k, loaded, sym (read-taken (o .«is_long») (w .heading)))
     by false e = rw e
 
 -- the Rust tries the six delimiters one after the other
 abbrev sourceDelimited : SourceDecoder → ℕ → Delimiter → SourceRun
-sourceDelimited d b (Known t l) = begin t l b d
+sourceDelimited d b (Known o) = begin (o .«frame_type») (o .«is_long») b d
 sourceDelimited d b Unknown = comesTo sourceNew (err (InvalidDelimiter b))
 
 module _ (d : SourceDecoder) (b : ℕ) where
-  tries : (t : FrameType) (l : Bool) (rest : Delimiter) (otherwise : SourceRun) → sourceDelimited d b rest ≡ otherwise
-      → sourceDelimited d b (cond (eqb b (delimiter t l)) (Known t l) rest) ≡ cond (eqb b (delimiter t l)) (begin t l b d) otherwise
-  tries t l rest otherwise e = elim (eqb b (delimiter t l)) as (λ y. sourceDelimited d b (cond y (Known t l) rest) ≡ cond y (begin t l b d) otherwise) [ true ↦ refl | false ↦ e ]
+  tries : (o : Opening) (rest : Delimiter) (otherwise : SourceRun) → sourceDelimited d b rest ≡ otherwise
+      → sourceDelimited d b (cond (eqb b (delimiter o)) (Known o) rest) ≡ cond (eqb b (delimiter o)) (sourceDelimited d b (Known o)) otherwise
+  tries o rest otherwise e =
+      elim (eqb b (delimiter o)) as (λ y. sourceDelimited d b (cond y (Known o) rest) ≡ cond y (sourceDelimited d b (Known o)) otherwise) [ true ↦ refl | false ↦ e ]
 
   delimiter-same : sourceDelimited d b (delimiterOf b) ≡ processDelimiter d b
-  unfolding delimiterOf
   delimiter-same =
-      tries Request false _ _ (tries Request true _ _ (tries Response false _ _ (tries Response true _ _ (tries Burst false _ _ (tries Burst true _ _ refl)))))
+      ap (sourceDelimited d b) (sym (six-delimiters b))
+      ∙ tries (opening Request false) _ _ (tries (opening Request true) _ _ (tries (opening Response false) _ _ (tries (opening Response true) _ _ (tries (opening Burst false) _ _ (tries (opening Burst true) _ _ refl)))))
+
+-- the Rust's own numbers for the bytes of an address
+lengths-same : (long : Bool) → cond long 5 1 ≡ addressLength long
+lengths-same false = refl
+lengths-same true = refl
 
 source-delimiter : (n b : ℕ) (d : Delimiter) → Right b d → sourceDelimited sourceNew b d ≡ sourceImage (scanEnter n b d)
-source-delimiter n b (Known t true) e = rw (check-first (delimiter t true) [], sym e)
-source-delimiter n b (Known t false) e = rw (check-first (delimiter t false) [], sym e)
+source-delimiter n b (Known o) e =
+    let whole : headLength o - 0 ≡ headLength o = omega arith in
+    rw (lengths-same (o .«is_long»), check-first (delimiter o) [], sym e, whole)
 source-delimiter n b Unknown e = refl
 
 source-other : (n b : ℕ) → eqb b 0xFF ≡ false → sourceFeed (sourceOf (pre n)) b ≡ sourceImage (scan (pre n) b)
 unfolding sourceFeed scan
-source-other n b e = rw e (by (leb 5 n))
+source-other n b e = rw e (by (leb enough n))
   where
     by : (y : Bool) → cond y (processDelimiter sourceNew b) (comesTo sourceNew okNone) ≡ sourceImage (cond y (scanEnter n b (delimiterOf b)) (hunt, some (shortRun n b)))
     by true = sym (delimiter-same sourceNew b) ∙ source-delimiter n b (delimiterOf b) (delimiter-right b)
@@ -211,11 +224,11 @@ source-hunt b = elim (eqb b 0xFF) as (λ y. cond y (comesTo (goto (preamble 1) s
 -- at every byte outside a preamble the Rust comes to what the scanner gives
 source-within : (n : ℕ) (p : Phase) (b : ℕ) → Fine (within n p) → sourceFeed (sourceOf (within n p)) b ≡ sourceImage (scan (within n p) b)
 unfolding scan scanWithin
-source-within n (addressing t l ad) b f = source-address n t l ad b (f .1)
-source-within n (commanding t l ad) b f = source-command n t l ad b
-source-within n (counting t l ad c) b f = source-count n t l ad c b
-source-within n (loadingPhase t l ad c m ds) b f = source-data n t l ad c m ds b (f .1 .1) (bytes-right ad (c ∷ m ∷ ds) (f .2 .1) .1 .0)
-source-within n (checking w) b f = source-check n w b (f .1) (bytes-left (w .address) (w .command ∷ length (w .payload) ∷ w .payload) (f .2 .1))
+source-within n (addressing o hs) b f = source-address n o hs b (f .1)
+source-within n (commanding o hs) b f = source-command n o hs b
+source-within n (counting o hs c) b f = source-count n o hs c b
+source-within n (loadingPhase o hs c m ds) b f = source-data n o hs c m ds b (f .1 .1) (bytes-right hs (c ∷ m ∷ ds) (f .2 .1) .1 .0)
+source-within n (checking w) b f = source-check n w b (f .1) (bytes-left (w .heading) (w .command ∷ length (w .payload) ∷ w .payload) (f .2 .1))
 
 -- the preamble bytes of the piece that the scanner is in
 abbrev pub preambleOf : Scan → ℕ
@@ -232,20 +245,20 @@ Stays n (s, some p) = s ≡ hunt
 
 pub stays-within : (n : ℕ) (p : Phase) (b : ℕ) → Stays n (scanWithin n p b)
 unfolding scanWithin
-stays-within n (addressing t l ad) b =
-    elim (eqb (length (ad ++ (b ∷ []))) (addressLength l)) as (λ y. Stays n (cond y (within n (commanding t l (ad ++ (b ∷ [])))) (within n (addressing t l (ad ++ (b ∷ [])))), none)) [ true ↦ refl | false ↦ refl ]
-stays-within n (commanding t l ad) b = refl
-stays-within n (counting t l ad c) b = elim (eqb 0 b) as (λ y. Stays n (cond y (within n (checking (wire t l ad c []))) (within n (loadingPhase t l ad c b [])), none)) [ true ↦ refl | false ↦ refl ]
-stays-within n (loadingPhase t l ad c m ds) b =
-    elim (eqb (length (ds ++ (b ∷ []))) m) as (λ y. Stays n (cond y (within n (checking (wire t l ad c (ds ++ (b ∷ []))))) (within n (loadingPhase t l ad c m (ds ++ (b ∷ [])))), none)) [ true ↦ refl | false ↦ refl ]
+stays-within n (addressing o hs) b =
+    elim (eqb (length (hs ++ (b ∷ []))) (headLength o)) as (λ y. Stays n (cond y (within n (commanding o (hs ++ (b ∷ [])))) (within n (addressing o (hs ++ (b ∷ [])))), none)) [ true ↦ refl | false ↦ refl ]
+stays-within n (commanding o hs) b = refl
+stays-within n (counting o hs c) b = elim (eqb 0 b) as (λ y. Stays n (cond y (within n (checking (wire o hs c []))) (within n (loadingPhase o hs c b [])), none)) [ true ↦ refl | false ↦ refl ]
+stays-within n (loadingPhase o hs c m ds) b =
+    elim (eqb (length (ds ++ (b ∷ []))) m) as (λ y. Stays n (cond y (within n (checking (wire o hs c (ds ++ (b ∷ []))))) (within n (loadingPhase o hs c m (ds ++ (b ∷ [])))), none)) [ true ↦ refl | false ↦ refl ]
 stays-within n (checking w) b = refl
 
 pub stays-behind : (n b : ℕ) → eqb b 0xFF ≡ false → Stays n (scan (pre n) b)
 unfolding scan
-stays-behind n b e = rw e (by (leb 5 n) (delimiterOf b))
+stays-behind n b e = rw e (by (leb enough n) (delimiterOf b))
   where
     by : (y : Bool) (d : Delimiter) → Stays n (cond y (scanEnter n b d) (hunt, some (shortRun n b)))
-    by true (Known t l) = refl
+    by true (Known o) = refl
     by true Unknown = refl
     by false d = refl
 

@@ -43,13 +43,13 @@ long-same ad k =
 
 pub address-whole-same : (ad : List ℕ) (long : Bool) → addressLength long ≤ length ad → Bytes ad → sourceAddress ad long ≡ okAddress (readAddress long ad) (addressLength long)
 address-whole-same ad false n k = rw (ne-eqb (length ad) 0 (omega (arith, n)), short-same (getD ad 0 0))
-address-whole-same ad true n k = rw (le-ltb (length ad) 5 n, long-same ad k)
+address-whole-same ad true n k = rw (le-ltb (length ad) (addressLength true) n, long-same ad k)
 
 pub address-same : (ad : List ℕ) (long : Bool) → Bytes ad → readingOf (sourceAddress ad long) ≡ decoded long ad
 address-same ad long k = by (ltb (length ad) (addressLength long)) refl
   where
     too-short : (l : Bool) → length ad < addressLength l → readingOf (sourceAddress ad l) ≡ addressRefused 3 []
-    too-short true h = rw (lt-ltb (length ad) 5 h)
+    too-short true h = rw (lt-ltb (length ad) (addressLength true) h)
     too-short false h = rw (eq-eqb (length ad) 0 (omega (arith, h)))
 
     by : (y : Bool) → ltb (length ad) (addressLength long) ≡ y → readingOf (sourceAddress ad long) ≡ cond y (addressRefused 3 []) (addressRead (readAddress long ad) (addressLength long))

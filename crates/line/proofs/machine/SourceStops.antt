@@ -34,6 +34,7 @@ use Rattle.line.specs.Pieces.{
   Cut,
 }
 use Rattle.line.specs.Runs.{endsIn}
+use Rattle.line.proofs.Machines.{ends-append}
 use Rattle.line.proofs.Scan.{Scan, hunt, pre, within, scanWithin, scan}
 use Rattle.line.proofs.Steps.{Steps, stay, go, steps-ends, to-preambles}
 use Rattle.line.proofs.Unique.{passes, rest-steps, scanned-whole}
@@ -154,8 +155,8 @@ crossing-steps {s} {s″} (go {s′ = s′} {bs = bs} e q) cs h = rw e (by (leb 
 -- a piece's preamble ends before its last byte
 leading-frame : (n : ℕ) (w : Wire) (c : ℕ) → leadingFF (preambles n ++ body w) ≡ leadingFF ((preambles n ++ body w) ++ (c ∷ []))
 leading-frame n w c =
-    let d : ℕ = delimiter (w .frameType) (w .long) in
-    let other : eqb d 0xFF ≡ false = ne-eqb d 0xFF (omega (arith, delimiter-small (w .frameType) (w .long))) in
+    let d : ℕ = delimiter (w .opening) in
+    let other : eqb d 0xFF ≡ false = ne-eqb d 0xFF (omega (arith, delimiter-small (w .opening))) in
     rw (append-assoc, leading-preambles n (body w), leading-preambles n (body w ++ (c ∷ [])), other)
 
 leading-byte : (n b : ℕ) → eqb b 0xFF ≡ false → leadingFF (preambles n) ≡ leadingFF (preambles n ++ (b ∷ []))
@@ -285,12 +286,8 @@ runs-end : (run : List ℕ) (runs : List (List ℕ)) → runsEnd (endsIn scan hu
 runs-end run [] = refl
 runs-end run (r ∷ rs) = runs-end r rs
 
-ends-behind : (s : Scan) (bs cs : List ℕ) → endsIn scan s (bs ++ cs) ≡ endsIn scan (endsIn scan s bs) cs
-ends-behind s [] cs = refl
-ends-behind s (b ∷ bs) cs = ends-behind ((scan s b) .0) bs cs
-
 tail-end : {run : List ℕ} {ps : List Piece} {t : List ℕ} → Cut run ps t → endsIn scan hunt run ≡ endsIn scan hunt t
-tail-end {ps = ps} {t = t} c = ap (endsIn scan hunt) (c .whole) ∙ ends-behind hunt (joined ps) t ∙ ap (λ (s : Scan). endsIn scan s t) (scanned-whole ps (c .pieces))
+tail-end {ps = ps} {t = t} c = ap (endsIn scan hunt) (c .whole) ∙ ends-append scan hunt (joined ps) t ∙ ap (λ (s : Scan). endsIn scan s t) (scanned-whole ps (c .pieces))
 
 -- The place: behind calls that the Rust has completed it stops at the next byte exactly if this is the 256th FF of a preamble.
 pub source-stops-at : (calls : List Call) (rs : List Result) (b : ℕ) {ps : List Piece} {t : List ℕ} → SmallCalls calls → b < 256 → traced sourceNew calls ≡ returned rs → Cut (lastRun calls) ps t

@@ -1,6 +1,6 @@
 -- Document 01, 'Promises' and 'Readings that look right': wrong decoders that the third demand excludes, and what is heard along runs that tell
 -- them from a right one.
-use Prim.Native.Nat.{ℕ, _≤_}
+use Prim.Native.Nat.{ℕ, _+_, _≤_}
 use mathlib.Core.Path.{_≡_}
 use mathlib.Core.Bool.{false}
 use mathlib.Core.List.{List, [], _∷_, _++_}
@@ -13,6 +13,8 @@ use Rattle.types.specs.declared.address.Address.the-variants.{Short}
 use Rattle.line.specs.Layout.{preambles}
 use Rattle.line.specs.Pieces.{Bytes}
 use Rattle.line.specs.Runs.{says}
+use Rattle.line.specs.machine.Room.{dataRoom}
+use Rattle.line.specs.machine.Step.{preambleCap}
 use Rattle.line.specs.machine.Frames.{padded, noFrame}
 use Rattle.line.specs.machine.Demand.{framesHeard, Answered}
 use Rattle.line.specs.declared.frame.Answer.{Answer}
@@ -58,7 +60,7 @@ requestHeard command payload = record {
     «frame_type» = Request;
     address = Short Primary false 0;
     command = command;
-    «data» = padded 255 payload;
+    «data» = padded dataRoom payload;
     length = length payload;
   };
 }
@@ -73,12 +75,12 @@ requestOfTwo = 0x02 ∷ 0x80 ∷ 0x01 ∷ 0x02 ∷ 0xAA ∷ 0x55 ∷ 0x7E ∷ []
 abbrev pub requestOfOne : List ℕ
 requestOfOne = 0x02 ∷ 0x80 ∷ 0x02 ∷ 0x01 ∷ 0x33 ∷ 0xB2 ∷ []
 
--- one frame; and a second one behind it with fewer data and six FF
+-- one frame; and a second one behind it with fewer data and one FF more than are counted
 abbrev pub oneFrame : List ℕ
 oneFrame = preambles 5 ++ bareRequest
 
 abbrev pub twoFrames : List ℕ
-twoFrames = preambles 5 ++ requestOfTwo ++ preambles 6 ++ requestOfOne
+twoFrames = preambles 5 ++ requestOfTwo ++ preambles (preambleCap + 1) ++ requestOfOne
 
 -- a wrong check that is FF, and four FF behind it before what else would be a frame
 abbrev pub checkBeforeFour : List ℕ

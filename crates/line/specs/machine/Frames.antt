@@ -6,10 +6,11 @@ use lib.ListN.{length, take, drop, replicate}
 use Rattle.types.specs.declared.delimiter.FrameType.the-variants.{Request}
 use Rattle.types.specs.declared.first.MasterRole.the-variants.{Secondary}
 use Rattle.types.specs.declared.address.Address.the-variants.{Short}
-use Rattle.types.specs.Address.{addressLength, readAddress}
-use Rattle.line.specs.Layout.{Wire}
+use Rattle.types.specs.Address.{headLength, headRoom, readAddress}
+use Rattle.line.specs.machine.Step.{openingIn}
+use Rattle.line.specs.Layout.{Wire, addressOf}
 use Rattle.line.specs.Events.{Event, silence, found, rejected}
-use Rattle.line.specs.machine.Room.{addressRoom, dataRoom}
+use Rattle.line.specs.machine.Room.{dataRoom}
 use Rattle.line.specs.declared.state.Head.{Head}
 use Rattle.line.specs.declared.frame.Frame.{Frame}
 use Rattle.line.specs.declared.frame.Heard.{Heard}
@@ -23,8 +24,8 @@ padded n bs = bs ++ replicate (n - length bs) 0
 -- a frame on the line, as it is handed to a caller
 abbrev pub frameOf : Wire → Frame
 frameOf w = record {
-  «frame_type» = w .frameType;
-  address = readAddress (w .long) (w .address);
+  «frame_type» = w .opening .«frame_type»;
+  address = readAddress (w .opening .«is_long») (addressOf w);
   command = w .command;
   «data» = padded dataRoom (w .payload);
   length = length (w .payload);
@@ -40,14 +41,13 @@ noFrame = record {
   length = 0;
 }
 
--- the frame that the 5 address and 255 data bytes hold
+-- the frame that the bytes beside a state hold
 abbrev pub wireAt : Head → ℕ → ℕ → List ℕ → Wire
 wireAt h command n bs = record {
-  frameType = h .«frame_type»;
-  long = h .long;
-  address = take (addressLength (h .long)) bs;
+  opening = openingIn h;
+  heading = take (headLength (openingIn h)) bs;
   command = command;
-  payload = take n (drop addressRoom bs);
+  payload = take n (drop headRoom bs);
 }
 
 -- what a caller is answered at an event: a kind of answer, and a frame beside it

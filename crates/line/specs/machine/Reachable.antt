@@ -8,8 +8,9 @@ use lib.ListN.{length, take, drop}
 use lib.Dec.{eqb, ltb, leb}
 use Rattle.octets.specs.Check.{checkFrom}
 use Rattle.types.specs.Delimiter.{delimiter}
-use Rattle.types.specs.Address.{addressLength}
-use Rattle.line.specs.machine.Room.{addressRoom, decoderRoom}
+use Rattle.types.specs.Address.{headLength, headRoom}
+use Rattle.line.specs.machine.Room.{decoderRoom}
+use Rattle.line.specs.machine.Step.{preambleCap, openingIn}
 use Rattle.line.specs.declared.state.Head.{Head}
 use Rattle.line.specs.declared.state.State.{State}
 use Rattle.line.specs.declared.state.State.the-variants.{
@@ -40,7 +41,7 @@ abbrev pub claim : Bool → Head → ℕ → ℕ → ℕ → ℕ → Claim
 claim possible h k c e n = record {
   possible = possible;
   check = h .check;
-  start = delimiter (h .«frame_type») (h .long);
+  start = delimiter (openingIn h);
   address = k;
   command = c;
   count = e;
@@ -49,25 +50,25 @@ claim possible h k c e n = record {
 
 abbrev pub claimOf : State → Claim
 claimOf Hunting = noClaim true
-claimOf (Preamble n) = noClaim (ltb 0 n && leb n 5)
-claimOf (Address h k) = claim (ltb k (addressLength (h .long))) h k 0 0 0
-claimOf (Command h) = claim true h (addressLength (h .long)) 0 0 0
-claimOf (ByteCount h c) = claim true h (addressLength (h .long)) c 0 0
-claimOf (Data h c e n) = claim (ltb n e) h (addressLength (h .long)) c e n
-claimOf (Checksum h c e) = claim true h (addressLength (h .long)) c e e
+claimOf (Preamble n) = noClaim (ltb 0 n && leb n preambleCap)
+claimOf (Address h k) = claim (ltb k (headLength (openingIn h))) h k 0 0 0
+claimOf (Command h) = claim true h (headLength (openingIn h)) 0 0 0
+claimOf (ByteCount h c) = claim true h (headLength (openingIn h)) c 0 0
+claimOf (Data h c e n) = claim (ltb n e) h (headLength (openingIn h)) c e n
+claimOf (Checksum h c e) = claim true h (headLength (openingIn h)) c e e
 
 abbrev pub allZero : List ℕ → Bool
 allZero [] = true
 allZero (b ∷ bs) = eqb b 0 && allZero bs
 
--- nothing stands past the address and data bytes that were read
+-- nothing stands past the bytes before the command and the data bytes that were read
 abbrev pub isClear : Claim → List ℕ → Bool
-isClear q bs = allZero (drop (q .address) (take addressRoom bs)) && allZero (drop (q .loaded) (drop addressRoom bs))
+isClear q bs = allZero (drop (q .address) (take headRoom bs)) && allZero (drop (q .loaded) (drop headRoom bs))
 
 -- the running check agrees with the bytes that were read
 abbrev pub isRight : Claim → List ℕ → Bool
 isRight q bs =
-    eqb (q .check) (checkFrom (q .start) (take (q .address) bs ++ (q .command ∷ q .count ∷ take (q .loaded) (drop addressRoom bs))))
+    eqb (q .check) (checkFrom (q .start) (take (q .address) bs ++ (q .command ∷ q .count ∷ take (q .loaded) (drop headRoom bs))))
 
 unfoldable pub reachableAt : State → List ℕ → Bool
 reachableAt s bs = eqb (length bs) decoderRoom && (claimOf s .possible && (isClear (claimOf s) bs && isRight (claimOf s) bs))

@@ -9,7 +9,7 @@ use mathlib.Core.Option.{Option, none, some}
 use mathlib.Core.List.{List, [], _∷_, _++_}
 use lib.Bits.{bitAnd, bitOr, bitXor}
 use lib.Dec.{eqb, ltb, leb}
-use lib.ListN.{length, getD, set, take, replicate}
+use lib.ListN.{length, getD, take, replicate}
 use Rattle.refusal.specs.declared.Refusal.{Refusal}
 use Rattle.refusal.specs.declared.Refusal.the-variants.{BufferTooShort, InvalidDelimiter, ChecksumMismatch}
 use Rattle.refusal.specs.Table.{numberOf, valuesOf}

@@ -5,7 +5,7 @@ use mathlib.Core.Path.{_≡_, ap, ap₂, _∙_}
 use lib.ListN.{length, replicate}
 use borrow.Author.Needs.{needs}
 use Rattle.framing.specs.Payload.{carries}
-use Rattle.commands.specs.Variables.{groupsOf, readsVariables}
+use Rattle.commands.specs.Variables.{mostVariables, groupsOf, readsVariables}
 use Rattle.commands.proofs.read_device_vars.Groups.{placed, placed-turn}
 use Rattle.commands.proofs.read_device_vars.decode_groups.Statement.{statement}
 use Rattle.commands.proofs.read_device_vars.decode_groups.Tie as tie
@@ -17,7 +17,7 @@ abbrev μ-loop : tie.MeasureT-loop
 μ-loop «data» variables₀ n-vars i₀ variables i = n-vars - i
 
 loop-holds : tie.Need-loop-holds Inv-loop μ-loop
-loop-holds c = (omega arith, ap (replicate 8) (c .before .no-variable .ensures))
+loop-holds c = (omega arith, ap (replicate mostVariables) (c .before .no-variable .ensures))
 
 mul-variable-at : tie.Need-mul-variable-at Inv-loop μ-loop
 mul-variable-at c = omega arith

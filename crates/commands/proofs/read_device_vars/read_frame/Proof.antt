@@ -2,8 +2,8 @@
 use mathlib.Core.Path.{refl, _∙_}
 use borrow.Author.Needs.{needs}
 use Rattle.octets.specs.Part.{partOf}
-use Rattle.framing.proofs.Payloads.{passed-carried, passed-verdict}
-use Rattle.commands.specs.Variables.{noVariablesRead, variablesRefused, variablesRead}
+use Rattle.commands.specs.Variables.{noVariablesRead, command9}
+use Rattle.framing.proofs.Typed.{reads-carried, reads-verdict}
 use Rattle.commands.proofs.read_device_vars.read_frame.Statement.{statement}
 use Rattle.commands.proofs.read_device_vars.read_frame.Tie as tie
 
@@ -11,13 +11,13 @@ returns : tie.Need-returns
 returns c =
     let a = c .before .before .before .before .before .args in
     c .refused .ensures
-    ∙ passed-verdict (variablesRead (a .mode)) variablesRefused 9 (a .frame-type) (a .command) (partOf (a .«data»)) noVariablesRead refl (c .before .enum-told2 .given .1) (c .before .before .before .typed-verdict .ensures)
+    ∙ reads-verdict (command9 (a .mode)) (a .frame-type) (a .command) (partOf (a .«data»)) (c .before .before .before .typed-verdict .ensures) noVariablesRead refl (c .before .enum-told2 .given .1)
 
 returns-2 : tie.Need-returns-2
 returns-2 c =
     let a = c .before .before .before .before .before .before .args in
     c .decode-data .ensures
-    ∙ passed-carried (variablesRead (a .mode)) variablesRefused 9 (a .frame-type) (a .command) (partOf (a .«data»)) (c .before .before .enum-told .given .1) (c .before .before .before .before .typed-verdict .ensures) (c .before .payload-part .ensures)
+    ∙ reads-carried (command9 (a .mode)) (a .frame-type) (a .command) (partOf (a .«data»)) (c .before .before .before .before .typed-verdict .ensures) (c .before .before .enum-told .given .1) (c .before .payload-part .ensures)
 
 pub read-frame-spec : {M : Type 1} → statement M
 read-frame-spec =

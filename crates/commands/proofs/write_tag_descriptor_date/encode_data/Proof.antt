@@ -2,13 +2,13 @@
 use Prim.Native.Nat.{ℕ, _≤_}
 use native.Mathlib.Omega.{arith}
 use mathlib.Core.Path.{_≡_, sym, ap, _∙_}
-use mathlib.Core.List.{List, [], _∷_, _++_}
+use mathlib.Core.List.{[], _∷_, _++_}
 use borrow.Author.Needs.{needs}
 use Rattle.refusal.specs.Outcome.{refuses}
 use Rattle.octets.proofs.Put.{put-wrote}
 use Rattle.commands.specs.Modes.{badIn}
-use Rattle.commands.specs.TagDescriptorDate.{tagDescriptorDateLayout}
-use Rattle.commands.proofs.write_tag_descriptor_date.Layouts.{length-layout, requested-small, requested-bad, requested-fits}
+use Rattle.commands.specs.TagDescriptorDate.{textsLength, tagDescriptorDateLayout}
+use Rattle.commands.proofs.tag_descriptor_date.Layouts.{length-layout, requested-small, requested-bad, requested-fits}
 use Rattle.commands.proofs.write_tag_descriptor_date.encode_data.Statement.{statement}
 use Rattle.commands.proofs.write_tag_descriptor_date.encode_data.Tie as tie
 
@@ -30,7 +30,7 @@ write-layout-requires c κs = (omega arith, omega (arith, c .before .before .bad
 returns-3 : tie.Need-returns-3
 returns-3 c =
     let a = c .before .before .before .before .before .before .before .before .args in
-    let good : 24 ≤ badIn (a .mode) (a .tag ++ a .descriptor) = omega (arith, c .before .before .before .before .before .bad-place-in-texts .ensures) in
+    let good : textsLength ≤ badIn (a .mode) (a .tag ++ a .descriptor) = omega (arith, c .before .before .before .before .before .bad-place-in-texts .ensures) in
     put-wrote (a .buf .now) (tagDescriptorDateLayout (a .mode) (a .tag) (a .descriptor) (a .day) (a .month) (a .year)) (c .before .before .write-layout .ensures) (sym (length-layout (a .mode) (a .tag) (a .descriptor) (a .day) (a .month) (a .year) (omega arith) (omega arith)))
     ∙ sym (requested-fits (a .mode) (a .tag) (a .descriptor) (a .day) (a .month) (a .year) (omega arith) (omega arith) (a .buf .now) (omega arith) good)
 

@@ -2,8 +2,8 @@
 use mathlib.Core.Path.{refl, _∙_}
 use borrow.Author.Needs.{needs}
 use Rattle.octets.specs.Part.{partOf}
-use Rattle.framing.proofs.Payloads.{passed-carried, passed-verdict}
-use Rattle.commands.specs.TagDescriptorDate.{noFieldsRead, fieldsRefused, fieldsRead}
+use Rattle.commands.specs.TagDescriptorDate.{noFieldsRead, command18}
+use Rattle.framing.proofs.Typed.{reads-carried, reads-verdict}
 use Rattle.commands.proofs.write_tag_descriptor_date.read_frame.Statement.{statement}
 use Rattle.commands.proofs.write_tag_descriptor_date.read_frame.Tie as tie
 
@@ -11,13 +11,13 @@ returns : tie.Need-returns
 returns c =
     let a = c .before .before .before .before .before .args in
     c .refused .ensures
-    ∙ passed-verdict (fieldsRead (a .mode)) fieldsRefused 18 (a .frame-type) (a .command) (partOf (a .«data»)) noFieldsRead refl (c .before .enum-told2 .given .1) (c .before .before .before .typed-verdict .ensures)
+    ∙ reads-verdict (command18 (a .mode)) (a .frame-type) (a .command) (partOf (a .«data»)) (c .before .before .before .typed-verdict .ensures) noFieldsRead refl (c .before .enum-told2 .given .1)
 
 returns-2 : tie.Need-returns-2
 returns-2 c =
     let a = c .before .before .before .before .before .before .args in
-    c .decode-data .ensures
-    ∙ passed-carried (fieldsRead (a .mode)) fieldsRefused 18 (a .frame-type) (a .command) (partOf (a .«data»)) (c .before .before .enum-told .given .1) (c .before .before .before .before .typed-verdict .ensures) (c .before .payload-part .ensures)
+    c .read-layout .ensures
+    ∙ reads-carried (command18 (a .mode)) (a .frame-type) (a .command) (partOf (a .«data»)) (c .before .before .before .before .typed-verdict .ensures) (c .before .before .enum-told .given .1) (c .before .payload-part .ensures)
 
 pub read-frame-spec : {M : Type 1} → statement M
 read-frame-spec =

@@ -2,7 +2,7 @@
 use Prim.Native.Nat.{ℕ, _-_}
 use native.Mathlib.Omega.{arith}
 use mathlib.Core.Path.{_≡_, ap, sym, _∙_}
-use mathlib.Core.Bool.{Bool, cond}
+use mathlib.Core.Bool.{Bool, true, cond}
 use mathlib.Core.List.{List, [], _∷_, _++_}
 use lib.ListN.{length, take, drop, replicate, length-take}
 use lib.Seq.{take-at}
@@ -14,21 +14,22 @@ use Rattle.types.specs.declared.address.AddressRead.{AddressRead}
 use Rattle.types.specs.declared.address.AddressRead.the-variants.{Read, Refused}
 use Rattle.types.specs.Address.{addressLength, isLong, readAddress, addressBytes, addressWritten, addressRead, addressRefused, readOf, decoded}
 use Rattle.types.proofs.Addresses.{address-length-le, address-fits, length-address, read-taken, long-read}
+use Rattle.line.specs.machine.Room.{decoderRoom}
 use Rattle.octets.specs.Figures.{hex}
 use Rattle.dump_lines.proofs.Words.{reworded}
 use borrow.Author.Needs.{needs}
 use Rattle.dump_lines.proofs.dump_text.write_address.Statement.{statement}
 use Rattle.dump_lines.proofs.dump_text.write_address.Tie as tie
 
-written-front : (a : Address) {r : Reply} {after : List ℕ} → ends r after ≡ addressWritten a (replicate 5 0) → take (addressLength (isLong a)) after ≡ addressBytes a
+written-front : (a : Address) {r : Reply} {after : List ℕ} → ends r after ≡ addressWritten a (replicate (addressLength true) 0) → take (addressLength (isLong a)) after ≡ addressBytes a
 written-front a {r} {after} e =
     let n = addressLength (isLong a) in
-    let f : ends r after ≡ wrote (addressBytes a) (replicate 5 0) = e ∙ address-fits a (replicate 5 0) (address-length-le (isLong a)) in
-    let g : after ≡ addressBytes a ++ drop (length (addressBytes a)) (replicate 5 0) = cc in
-    ap (take n) g ∙ take-at (addressBytes a) (drop (length (addressBytes a)) (replicate 5 0)) n (length-address a)
+    let f : ends r after ≡ wrote (addressBytes a) (replicate (addressLength true) 0) = e ∙ address-fits a (replicate (addressLength true) 0) (address-length-le (isLong a)) in
+    let g : after ≡ addressBytes a ++ drop (length (addressBytes a)) (replicate (addressLength true) 0) = cc in
+    ap (take n) g ∙ take-at (addressBytes a) (drop (length (addressBytes a)) (replicate (addressLength true) 0)) n (length-address a)
 
 -- the bytes are enough, so that the address is read, from as many of them as it has
-module _ (long : Bool) (bs : List ℕ) (size : length bs ≡ 260) (r : AddressRead) (e : readOf r ≡ decoded long bs) where
+module _ (long : Bool) (bs : List ℕ) (size : length bs ≡ decoderRoom) (r : AddressRead) (e : readOf r ≡ decoded long bs) where
   enough : readOf r ≡ addressRead (readAddress long bs) (addressLength long)
   enough =
       e ∙ ap (λ (t : Bool). cond t (addressRefused 3 []) (addressRead (readAddress long bs) (addressLength long))) (le-ltb (length bs) (addressLength long) (omega (arith, address-length-le long)))

@@ -4,7 +4,7 @@ use native.Mathlib.Omega.{arith}
 use mathlib.Core.Path.{_≡_, ap}
 use mathlib.Core.List.{List, [], _∷_, _++_}
 use lib.ListN.{length, take, drop}
-use Rattle.octets.specs.Figures.{decimal}
+use Rattle.octets.specs.Figures.{decimal, decimalRoom}
 use Rattle.octets.proofs.Decimals.{length-decimal, from-within, length-text, text-part}
 use Rattle.dump_lines.proofs.Words.{reworded}
 use borrow.Author.Needs.{needs}
@@ -25,7 +25,7 @@ returns c =
     let a = c .before .before .before .before .before .before .before .before .before .args in
     let w = c .before .before .write-word in
     let d = c .before .before .before .before .before .before .before .decimal in
-    let part : take (20 - d .result .from) (drop (d .result .from) (d .result .text)) ≡ decimal (a .number) = text-part (a .number) (omega arith) (d .ensures) in
+    let part : take (decimalRoom - d .result .from) (drop (d .result .from) (d .result .text)) ≡ decimal (a .number) = text-part (a .number) (omega arith) (d .ensures) in
     (reworded (ap (λ (xs : List ℕ). xs ++ (a .mark ∷ [])) part) (w .ensures .0), omega (arith, w .ensures .1, ap length part, length-decimal (a .number) (omega arith)))
 
 pub write-number-spec : {M : Type 1} → statement M

@@ -5,7 +5,7 @@ use Rattle.framing.proofs.byte.process_delimiter.Statement.{statement}
 use Rattle.framing.proofs.byte.process_delimiter.Tie as tie
 
 returns : tie.Need-returns
-returns c = rw (sym (c .before .before .before .read-delimiter .ensures) ∙ c .before .frame-type .given .1)
+returns c = rw (sym (c .before .before .before .read-delimiter .ensures) ∙ c .before .opening .given .1)
 
 returns-2 : tie.Need-returns-2
 returns-2 c = rw (sym (c .before .before .before .read-delimiter .ensures) ∙ c .before .enum-told .given .1) (c .piece-over .ensures)

@@ -1,7 +1,7 @@
 -- Each refusal by its test, and the rest by the layout that was put.
-use Prim.Native.Nat.{_+_, _≤_}
+use Prim.Native.Nat.{_≤_}
 use native.Mathlib.Omega.{arith}
-use mathlib.Core.Path.{_≡_, sym, _∙_}
+use mathlib.Core.Path.{sym, _∙_}
 use lib.ListN.{length}
 use Rattle.octets.proofs.Put.{put-wrote}
 use Rattle.types.specs.Address.{isLong}
@@ -37,8 +37,7 @@ returns-3 c =
     let length-told = c .before .before .before .before .before .length-of .ensures in
     let frame = layout n (wireOf (a .frame-type) (a .address) (a .command) ds) in
     let room : total n (isLong (a .address)) (length ds) ≤ length (a .buf .now) = omega (arith, c .before .before .before .before .if2 .left, length-told) in
-    let count : n + 4 + c .before .before .before .before .before .length-of .result + length ds ≡ length frame = omega (arith, length-layout (a .frame-type) (a .address) (a .command) n ds, length-told) in
-    put-wrote (a .buf .now) frame (c .before .before .write-frame .ensures) count
+    put-wrote (a .buf .now) frame (c .before .before .write-frame .ensures) (omega (arith, length-layout (a .frame-type) (a .address) (a .command) n ds, length-told))
     ∙ sym (encoded-fits (a .frame-type) (a .address) (a .command) ds n (a .buf .now) (c .before .before .before .before .before .before .if1 .left) room)
 
 pub encode-frame-spec : {M : Type 1} → statement M

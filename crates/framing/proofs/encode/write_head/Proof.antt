@@ -2,13 +2,15 @@
 use Prim.Native.Nat.{ℕ, _+_, _≤_}
 use native.Mathlib.Omega.{arith}
 use mathlib.Core.Path.{_≡_, ap, _∙_}
-use lib.ListN.{length, set, length-set, length-replicate}
+use lib.ListN.{length, set, length-set}
 use Rattle.octets.specs.Put.{put}
 use Rattle.octets.proofs.Put.{put-head}
 use Rattle.types.specs.Delimiter.{delimiter}
 use Rattle.types.specs.Address.{addressLength, isLong, addressBytes}
 use Rattle.types.proofs.Addresses.{length-address, lent-address}
 use Rattle.line.specs.Layout.{preambles}
+use Rattle.line.specs.Encode.{openingOf}
+use Rattle.line.proofs.Layouts.{length-preambles}
 use borrow.Author.Needs.{needs}
 use Rattle.framing.proofs.encode.write_head.Statement.{statement}
 use Rattle.framing.proofs.encode.write_head.Tie as tie
@@ -33,13 +35,13 @@ returns c =
     let a = c .before .before .before .before .before .before .before .before .before .before .before .before .args in
     let n = a .preamble-count in
     let p = c .before .before .before .before .before .before .before .before .before .write-preambles .last .0 in
-    let d : c .before .before .before .before .before .delimiter-byte .result ≡ delimiter (a .frame-type) (isLong (a .address)) = c .before .before .before .before .before .delimiter-byte .ensures ∙ ap (delimiter (a .frame-type)) (c .before .before .before .before .before .before .is-long .ensures) in
+    let d : c .before .before .before .before .before .delimiter-byte .result ≡ delimiter (openingOf (a .frame-type) (a .address)) = cc in
     let l = set p n (c .before .before .before .before .before .delimiter-byte .result) in
     let room : n + 1 + addressLength (isLong (a .address)) ≤ length l = simp length-set (omega (arith, c .before .before .before .before .before .before .before .before .before .write-preambles .kept .0)) in
     let w = lent-address (a .address) l (n + 1) room (c .before .before .before .encode .ensures) ∙ ap (λ (x : ℕ). put (set p n x) (n + 1) (addressBytes (a .address))) d in
     let at = n + 1 + c .length-of .result in
     let size : at ≡ n + 1 + length (addressBytes (a .address)) = omega (arith, c .length-of .ensures, length-address (a .address)) in
-    (omega (arith, c .length-of .ensures), put-head (a .buf .now) (preambles n) n (delimiter (a .frame-type) (isLong (a .address))) (addressBytes (a .address)) at (a .command) (a .count) (c .before .before .before .before .before .before .before .before .before .write-preambles .ensures) (length-replicate {A = ℕ} n 255) w size (omega (arith, c .length-of .ensures)))
+    (omega (arith, c .length-of .ensures), put-head (a .buf .now) (preambles n) n (delimiter (openingOf (a .frame-type) (a .address))) (addressBytes (a .address)) at (a .command) (a .count) (c .before .before .before .before .before .before .before .before .before .write-preambles .ensures) (length-preambles n) w size (omega (arith, c .length-of .ensures)))
 
 pub write-head-spec : {M : Type 1} → statement M
 write-head-spec =

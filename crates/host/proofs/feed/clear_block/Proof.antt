@@ -2,7 +2,7 @@
 use Prim.Native.Nat.{ℕ}
 use mathlib.Core.Path.{_≡_, sym, ap, _∙_}
 use lib.ListN.{length, replicate}
-use Rattle.host.specs.Block.{clears}
+use Rattle.host.specs.Block.{blockSize, clears}
 use Rattle.host.proofs.Blocks.{clear-whole, clear-refused}
 use borrow.Author.Needs.{needs}
 use Rattle.host.proofs.feed.clear_block.Statement.{statement}
@@ -11,7 +11,7 @@ use Rattle.host.proofs.feed.clear_block.Tie as tie
 returns : tie.Need-returns
 returns c =
     let l = c .before .before .before .before .before .before .args .block .now in
-    let whole : length l ≡ 266 = c .before .before .before .before .if1 .taken in
+    let whole : length l ≡ blockSize = c .before .before .before .before .if1 .taken in
     ap (clears 0) (c .before .before .fill .ensures ∙ ap (λ (n : ℕ). replicate n 0) whole) ∙ sym (clear-whole l whole)
 
 returns-2 : tie.Need-returns-2

@@ -1,7 +1,7 @@
 use Prim.Native.Nat.{ℕ, _%_, _≤_, _<_}
 use native.Mathlib.Omega.{arith}
 use mathlib.Core.Path.{_≡_, refl, sym, ap, _∙_}
-use mathlib.Core.Bool.{Bool}
+use mathlib.Core.Bool.{Bool, true}
 use mathlib.Core.List.{List, [], _∷_}
 use lib.Bits.{bitAnd, and-mask, and-le-r}
 use lib.ListN.{length, set}
@@ -10,7 +10,7 @@ use Rattle.octets.specs.Put.{put}
 use Rattle.octets.proofs.Put.{set-is-put, put-wrote}
 use Rattle.types.specs.declared.first.MasterRole.{MasterRole}
 use Rattle.types.specs.declared.address.Address.the-variants.{Short, Long}
-use Rattle.types.specs.Address.{firstByte, longBytes, addressBytes, addressWritten}
+use Rattle.types.specs.Address.{addressLength, firstByte, longBytes, addressBytes, addressWritten}
 use Rattle.types.proofs.Addresses.{address-fits, address-refused}
 use borrow.Author.Needs.{needs}
 use Rattle.types.proofs.address.Address.encode.Statement.{statement}
@@ -25,8 +25,8 @@ short-stored m b p buffer {v} e h =
     put-wrote buffer (addressBytes (Short m b p)) (set-is-put buffer 0 v h ∙ ap (λ (x : ℕ). put buffer 0 (x ∷ [])) f) refl
     ∙ sym (address-fits (Short m b p) buffer h)
 
-long-stored : (m : MasterRole) (b : Bool) (f t n : ℕ) (buffer : List ℕ) {v : ℕ} {after : List ℕ} → v ≡ firstByte m b (bitAnd f 63) → after ≡ put buffer 0 (longBytes v t n) → 5 ≤ length buffer
-    → ends (done (5 ∷ [])) after ≡ addressWritten (Long m b f t n) buffer
+long-stored : (m : MasterRole) (b : Bool) (f t n : ℕ) (buffer : List ℕ) {v : ℕ} {after : List ℕ} → v ≡ firstByte m b (bitAnd f 63) → after ≡ put buffer 0 (longBytes v t n) → addressLength true ≤ length buffer
+    → ends (done (addressLength true ∷ [])) after ≡ addressWritten (Long m b f t n) buffer
 unfolding addressBytes
 long-stored m b f t n buffer {v} {after} e w h =
     let g : v ≡ firstByte m b (f % 64) = e ∙ ap (firstByte m b) (and-mask f 6) in

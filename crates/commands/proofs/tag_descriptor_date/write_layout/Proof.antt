@@ -10,21 +10,21 @@ use Rattle.refusal.specs.Outcome.{Reply, ends}
 use Rattle.octets.specs.Put.{put}
 use Rattle.octets.proofs.Put.{length-put}
 use Rattle.packed_string.specs.declared.text_group.Mode.{Mode}
-use Rattle.commands.specs.Modes.{packedText, packedIn, badIn}
-use Rattle.commands.proofs.Texts.{good-in-first, good-in-second, lent-text}
-use Rattle.commands.specs.TagDescriptorDate.{tagDescriptorDateLayout}
-use Rattle.commands.proofs.write_tag_descriptor_date.Layouts.{length-tag, fields-put}
-use Rattle.commands.proofs.write_tag_descriptor_date.write_layout.Statement.{statement}
-use Rattle.commands.proofs.write_tag_descriptor_date.write_layout.Tie as tie
+use Rattle.commands.specs.Modes.{packedText, tagLength, tagSize, packedIn, badIn}
+use Rattle.commands.proofs.Texts.{packed-text-size, good-in-first, good-in-second, lent-text}
+use Rattle.commands.specs.TagDescriptorDate.{descriptorLength, descriptorSize, textsLength, dayAt, monthAt, yearAt, layoutSize, tagDescriptorDateLayout}
+use Rattle.commands.proofs.tag_descriptor_date.Layouts.{fields-put}
+use Rattle.commands.proofs.tag_descriptor_date.write_layout.Statement.{statement}
+use Rattle.commands.proofs.tag_descriptor_date.write_layout.Tie as tie
 
-fields-written : (mode : Mode) (tag descriptor : List ℕ) (day month year : ℕ) (l : List ℕ) {r s : Reply} {p q : List ℕ} → length tag ≡ 8 → length descriptor ≡ 16 → 21 ≤ length l → 24 ≤ badIn mode (tag ++ descriptor)
-    → ends r p ≡ packedIn mode tag (midOf 0 6 l) → ends s q ≡ packedIn mode descriptor (midOf 6 12 (putMid 0 6 l p))
-    → set (set (set (putMid 6 12 (putMid 0 6 l p) q) 18 day) 19 month) 20 year ≡ put l 0 (tagDescriptorDateLayout mode tag descriptor day month year)
+fields-written : (mode : Mode) (tag descriptor : List ℕ) (day month year : ℕ) (l : List ℕ) {r s : Reply} {p q : List ℕ} → length tag ≡ tagLength → length descriptor ≡ descriptorLength → layoutSize ≤ length l → textsLength ≤ badIn mode (tag ++ descriptor)
+    → ends r p ≡ packedIn mode tag (midOf 0 tagSize l) → ends s q ≡ packedIn mode descriptor (midOf tagSize descriptorSize (putMid 0 tagSize l p))
+    → set (set (set (putMid tagSize descriptorSize (putMid 0 tagSize l p) q) dayAt day) monthAt month) yearAt year ≡ put l 0 (tagDescriptorDateLayout mode tag descriptor day month year)
 fields-written mode tag descriptor day month year l {p = p} t d room good e f =
-    let b = putMid 0 6 l p in
-    let first : b ≡ put l 0 (packedText mode tag) = lent-text mode tag l 0 6 (omega arith) (omega arith) (good-in-first mode tag descriptor (omega arith)) e in
-    let same : length b ≡ length l = ap length first ∙ length-put l 0 (packedText mode tag) (omega (arith, length-tag mode tag t)) in
-    let second = lent-text mode descriptor b 6 12 (omega arith) (omega arith) (good-in-second mode tag descriptor (omega arith)) f in
+    let b = putMid 0 tagSize l p in
+    let first : b ≡ put l 0 (packedText mode tag) = lent-text mode tag l 0 tagSize (omega arith) (omega arith) (good-in-first mode tag descriptor (omega arith)) e in
+    let same : length b ≡ length l = ap length first ∙ length-put l 0 (packedText mode tag) (omega (arith, packed-text-size mode tag t)) in
+    let second = lent-text mode descriptor b tagSize descriptorSize (omega arith) (omega arith) (good-in-second mode tag descriptor (omega arith)) f in
     fields-put mode tag descriptor day month year t d l room first second
 
 slice-write-buf-2 : tie.Need-slice-write-buf-2
