@@ -1,10 +1,10 @@
+pub mod Places
 pub mod Identities
 pub mod IdentitySource
 pub mod Worths
-pub mod Responding
+pub mod Texts
 pub mod Untouched
-pub mod Leaves
-pub mod ReadBack
-pub mod Bench
+pub mod TextRoundTrip
+pub mod TextSource
 pub mod Responses
 pub mod Determined

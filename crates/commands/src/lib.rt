@@ -1,12 +1,11 @@
 // The commands (commands/mod.rs), a module each under the Rust's name, and what a device's identity, a
 // measured value and a tag with descriptor and date are.
 mod identity;
-pub mod read_device_id;
 pub mod read_device_vars;
-pub mod read_tag_descriptor_date;
 pub mod read_unique_id_by_tag;
 mod reading;
 mod tag_descriptor_date;
+mod text_in_mode;
 pub mod write_tag_descriptor_date;
 
 pub use identity::{DeviceIdentity, IdentityRead};

@@ -3,24 +3,37 @@
 // the bytes of each read are handed to it, once and in order, and its lines to the system; what is left
 // to trust are the calls of the system themselves, the read in `read_on` and the write in `print`.
 // Rattle has no exit status: what goes wrong is said on standard error, and then there is no last line.
-ghost use Rattle.std.specs.Prelude.{◌≡◌, ◌≤◌, ◌<◌, length, take, eqb, pos, false, ◌&&◌};
+ghost use Rattle.std.specs.Prelude.{◌≡◌, ◌≤◌, ◌<◌, length, take, eqb, pos, true, false, ◌&&◌};
 ghost use Rattle.std.specs.Int.Signed.{lt_z};
 ghost use Rattle.io.specs.Counts.{clamp_len};
 ghost use Rattle.dump_lines.specs.Text.{line_max};
-ghost use Rattle.dump_lines.specs.Lines.{fresh_dump, after, printed, last_line};
-ghost use Rattle.streams.specs.Passing.{read_size, HandsOver, PassesOn, ReadsAll};
+ghost use Rattle.dump_lines.specs.Lines.{printed};
+ghost use Rattle.dump.specs.Passing.{PassesOn, TellsEnd, ReadsAll};
 
 use dump_lines::Dump;
-use libc::{STDERR_FILENO, STDIN_FILENO};
+use libc::{STDERR_FILENO, STDIN_FILENO, STDOUT_FILENO};
 use refusal::Written;
-use streams::{Handover, READ_SIZE, READS};
+
+// Bytes to a read, and to a write.
+const SIZE: usize = 65536;
+
+// A proved loop has to end, and nothing says that the input does: so the reads are counted down, from a
+// number that no run comes to and that keeps the count of the bytes within 64 bits.
+const READS: u64 = 281474976710655;
+
+// How many bytes standard output was asked to take, and how many it took.
+#[derive(Drop)]
+struct Sent {
+    asked: usize,
+    took: usize,
+}
 
 // The dump behind the bytes that were used, how many those are, and what became of their lines.
 #[derive(Drop)]
 struct Passed {
     dump: Dump,
     used: usize,
-    handover: Handover,
+    sent: Sent,
 }
 
 // What the system answered to a read, how many bytes that is, and what became of them.
@@ -38,51 +51,95 @@ struct Ran {
     heard: u64,
     dump: Dump,
     got: isize,
-    handover: Handover,
+    sent: Sent,
 }
 
 // The same, and what became of the last line.
 #[derive(Drop)]
 struct Finished {
     ran: Ran,
-    end: Handover,
+    end: Sent,
+}
+
+fn tell_unread() {
+    os::fail(b"dump: cannot read standard input");
+}
+
+fn tell_unwritten() {
+    os::fail(b"dump: cannot write to standard output");
 }
 
 fn tell_uncounted() {
     io::write_all(STDERR_FILENO, b"dump: more reads than can be counted\n");
 }
 
-fn print(bytes: &[u8]) -> Handover
+// Whether a call that answered so is to be made again: one that failed, but only because nothing was there
+// yet, or no room, on a descriptor that does not wait, or because a signal came first.
+fn again(got: isize) -> bool
+    ensures { result ≡ true → lt_z got (pos 0) ≡ true }
+{
+    if got < 0 {
+        let error = os::errno();
+        if (error == libc::EAGAIN) | (error == libc::EINTR) {
+            libc::sched_yield();
+            return true;
+        }
+    }
+    false
+}
+
+// All of the bytes, in as many calls as it takes; these are counted down as the reads are.
+fn print(bytes: &[u8]) -> Sent
     ensures { (result.asked ≡ length bytes.now) × (result.took ≤ result.asked) }
 {
-    streams::print(bytes, b"dump: cannot write to standard output")
+    let mut took: usize = 0;
+    let mut calls = u64::MAX;
+    while (took < bytes.len()) & (calls > 0) {
+        let got = libc::write(STDOUT_FILENO, &bytes[took..]);
+        let more = io::count(got, bytes);
+        if more == 0 {
+            if !again(got) {
+                tell_unwritten();
+                return Sent {
+                    asked: bytes.len(),
+                    took,
+                };
+            }
+        }
+        took += more;
+        calls -= 1;
+    }
+    Sent {
+        asked: bytes.len(),
+        took,
+    }
 }
 
 // The lines of as many bytes as the buffer has room for.
 fn print_some(dump: Dump, src: &[u8], out: &mut [u8]) -> Passed
     requires { line_max ≤ length out.old }
-    ensures passes_on { PassesOn after printed dump src.now result.dump result.used result.handover }
+    ensures passes_on { PassesOn dump src.now result }
     ensures used_nonzero { 0 < length src.now → 0 < result.used }
-    ensures asked_in_bounds { result.handover.asked ≤ length out.old }
-    ensures out_after { take result.handover.asked out.new ≡ printed dump (take result.used src.now) }
+    ensures asked_in_bounds { result.sent.asked ≤ length out.old }
+    ensures out_after { take result.sent.asked out.new ≡ printed dump (take result.used src.now) }
 {
     let taken = dump.take(src, out);
     let n = taken.written;
-    let handover = print(&out[..n]);
+    let sent = print(&out[..n]);
     let dump = taken.dump;
     Passed {
         dump,
         used: taken.used,
-        handover,
+        sent,
     }
 }
 
 // The lines of all bytes of a read, unless the system does not take them.
 fn print_lines(dump: Dump, src: &[u8], out: &mut [u8]) -> Passed
     requires line_max_in_bounds { line_max ≤ length out.old }
-    requires out_len_bound { (length out.old ≤ read_size) × (length src.now ≤ read_size) }
-    ensures passes_on { PassesOn after printed dump src.now result.dump result.used result.handover }
-    ensures used_value { result.handover.took ≡ result.handover.asked → result.used ≡ length src.now }
+    requires out_len_bound { (length out.old ≤ 65536) × (length src.now ≤ 65536) }
+    ensures passes_on { PassesOn dump src.now result }
+    ensures used_value { result.sent.took ≡ result.sent.asked → result.used ≡ length src.now }
 {
     let mut dump = dump;
     let mut used: usize = 0;
@@ -92,34 +149,34 @@ fn print_lines(dump: Dump, src: &[u8], out: &mut [u8]) -> Passed
         let passed = print_some(dump, &src[used..], out);
         dump = passed.dump;
         used += passed.used;
-        let handover = passed.handover;
-        asked += handover.asked;
-        took += handover.took;
+        let sent = passed.sent;
+        asked += sent.asked;
+        took += sent.took;
     }
     Passed {
         dump,
         used,
-        handover: Handover { asked, took },
+        sent: Sent { asked, took },
     }
 }
 
-fn print_end(dump: Dump, out: &mut [u8]) -> Handover
+fn print_end(dump: Dump, out: &mut [u8]) -> Sent
     requires { line_max ≤ length out.old }
-    ensures { HandsOver (last_line dump.totals) out.new result }
+    ensures { TellsEnd dump out.new result }
 {
     match dump.end(out) {
         Written::Count(n) => print(&out[..n]),
-        Written::Refused(_) => Handover { asked: 0, took: 0 },
+        Written::Refused(_) => Sent { asked: 0, took: 0 },
     }
 }
 
 // The bytes of the next read, and their lines.
 fn read_on(dump: Dump, input: &mut [u8], out: &mut [u8]) -> Went
     requires line_max_in_bounds { line_max ≤ length out.old }
-    requires out_len_bound { (length out.old ≤ read_size) × (length input.old ≤ read_size) }
+    requires out_len_bound { (length out.old ≤ 65536) × (length input.old ≤ 65536) }
     ensures n_value { result.n ≡ clamp_len result.got (length input.new) }
-    ensures passes_on { PassesOn after printed dump (take result.n input.new) result.passed.dump result.passed.used result.passed.handover }
-    ensures used_value { result.passed.handover.took ≡ result.passed.handover.asked → result.passed.used ≡ length (take result.n input.new) }
+    ensures passes_on { PassesOn dump (take result.n input.new) result.passed }
+    ensures used_value { result.passed.sent.took ≡ result.passed.sent.asked → result.passed.used ≡ length (take result.n input.new) }
 {
     let got = libc::read(STDIN_FILENO, input);
     let n = io::count(got, input);
@@ -127,16 +184,24 @@ fn read_on(dump: Dump, input: &mut [u8], out: &mut [u8]) -> Went
     Went { got, n, passed }
 }
 
-fn goes_on(got: isize, handover: Handover) -> bool
-    ensures { lt_z got (pos 0) ≡ false → result ≡ lt_z (pos 0) got && eqb handover.took handover.asked }
+// Whether there is to be another read. No system call stands between the read and this.
+fn goes_on(got: isize, sent: Sent) -> bool
+    ensures { lt_z got (pos 0) ≡ false → result ≡ lt_z (pos 0) got && eqb sent.took sent.asked }
 {
-    streams::goes_on(got, handover, b"dump: cannot read standard input")
+    if got < 0 {
+        if again(got) {
+            return true;
+        }
+        tell_unread();
+        return false;
+    }
+    (got > 0) & (sent.took == sent.asked)
 }
 
 fn read_all(input: &mut [u8], out: &mut [u8]) -> Ran
     requires line_max_in_bounds { line_max ≤ length out.old }
-    requires out_len_bound { (length out.old ≤ read_size) × (length input.old ≤ read_size) }
-    ensures { ReadsAll after fresh_dump result.dump result.heard result.got result.handover }
+    requires out_len_bound { (length out.old ≤ 65536) × (length input.old ≤ 65536) }
+    ensures { ReadsAll result }
 {
     let mut dump = Dump::new();
     let mut heard: u64 = 0;
@@ -145,16 +210,16 @@ fn read_all(input: &mut [u8], out: &mut [u8]) -> Ran
         let went = read_on(dump, input, out);
         let got = went.got;
         let passed = went.passed;
-        let handover = passed.handover;
+        let sent = passed.sent;
         dump = passed.dump;
         heard += passed.used as u64;
         reads -= 1;
-        if !goes_on(got, handover) {
+        if !goes_on(got, sent) {
             return Ran {
                 heard,
                 dump,
                 got,
-                handover,
+                sent,
             };
         }
     }
@@ -163,7 +228,7 @@ fn read_all(input: &mut [u8], out: &mut [u8]) -> Ran
         heard,
         dump,
         got: -1,
-        handover: Handover { asked: 0, took: 0 },
+        sent: Sent { asked: 0, took: 0 },
     }
 }
 
@@ -171,7 +236,7 @@ fn read_all(input: &mut [u8], out: &mut [u8]) -> Ran
 fn print_totals(ran: Ran, out: &mut [u8]) -> Finished
     requires { line_max ≤ length out.old }
     ensures ran_value { result.ran ≡ ran }
-    ensures hands_over { HandsOver (last_line ran.dump.totals) out.new result.end }
+    ensures tells_end { TellsEnd ran.dump out.new result.end }
 {
     let end = print_end(ran.dump, out);
     Finished { ran, end }
@@ -180,9 +245,9 @@ fn print_totals(ran: Ran, out: &mut [u8]) -> Finished
 // The last line stands for an input that was read to its end.
 fn run(input: &mut [u8], out: &mut [u8]) -> Finished
     requires line_max_in_bounds { line_max ≤ length out.old }
-    requires out_len_bound { (length out.old ≤ read_size) × (length input.old ≤ read_size) }
-    ensures reads_all { ReadsAll after fresh_dump result.ran.dump result.ran.heard result.ran.got result.ran.handover }
-    ensures hands_over { result.ran.got ≡ pos 0 → HandsOver (last_line result.ran.dump.totals) out.new result.end }
+    requires out_len_bound { (length out.old ≤ 65536) × (length input.old ≤ 65536) }
+    ensures reads_all { ReadsAll result.ran }
+    ensures tells_end { result.ran.got ≡ pos 0 → TellsEnd result.ran.dump out.new result.end }
     ensures asked_value { (result.ran.got ≡ pos 0 → ⊥) → result.end.asked ≡ 0 }
 {
     let ran = read_all(input, out);
@@ -192,12 +257,12 @@ fn run(input: &mut [u8], out: &mut [u8]) -> Finished
     }
     Finished {
         ran,
-        end: Handover { asked: 0, took: 0 },
+        end: Sent { asked: 0, took: 0 },
     }
 }
 
 fn main() {
-    let mut input = [0u8; READ_SIZE];
-    let mut out = [0u8; READ_SIZE];
+    let mut input = [0u8; SIZE];
+    let mut out = [0u8; SIZE];
     run(&mut input, &mut out);
 }

@@ -1,7 +1,14 @@
 // What the example prints, on standard output, and the front of a slice.
+ghost use Rattle.std.specs.Prelude.{◌≤◌};
+
 use libc::STDOUT_FILENO;
-use octets::least;
 use refusal::Refusal;
+
+fn least(a: usize, b: usize) -> usize
+    ensures { result ≤ b }
+{
+    if a < b { a } else { b }
+}
 
 // The first n bytes. What `least` promises is why this cannot go past the end: the check refuses a slice
 // that might.

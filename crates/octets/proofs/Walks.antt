@@ -1,35 +1,31 @@
--- Steps of a walk, for proofs that go through code operation by operation: a call whose contract names the struct that it gives back, what a
--- local holds, lent and back, and a slice that is lent again. They are of any struct and any slice; those who walk say which.
+-- Steps of a walk, for proofs that go through code operation by operation: a call whose contract names the struct that it gives back, and
+-- what a local holds, lent and back. They are of any struct; those who walk say which.
 use mathlib.Core.Path.{◌≡◌, refl, sym, ap, subst}
 use mathlib.Core.WellFounded.InvImage
 use mathlib.Core.WellFounded.{WellFounded}
 use mathlib.Core.List.{[], ◌∷◌, List}
-use lib.ListN.{length}
 use Prim.Native.Nat.{ℕ, ◌+◌, ◌-◌, ◌<◌, ◌^◌}
 use native.Mathlib.Omega.{arith}
 use lib.WfN.{lt-wf_rel}
 use seplogic.Ra.Ura.{Ura}
 use seplogic.Ra.TreeShare.{full_share}
-use mir.Syntax.{named, Lifetime, Name, Place, Opd as Operand, Body as Code, seq, call}
+use mir.Syntax.{named, Name, Place, Opd as Operand, Body as Code, seq, call}
 use mir.Val.{Val, vptr}
 use base.Logic.{ent, sep}
-use base.Fml.{Lft, GName, Share, Fml, ftrue, fsep, fdead, flft, flent, fobor, fobs, fauth, fres}
+use base.Fml.{Lft, GName, Fml, ftrue, fsep, fdead, flft, flent, fres}
 use prog.Wp.{Env, Calls, Loops}
 use types.Logic.{Logic, sem}
 use contract.Monad.{fact}
-use types.Kit.{Goal, Soaks, Step, step, Item, Post, Seq, runs, lands, mean, ‵, raw, ◌⊛◌, some, later, ◌$◌, move, drop, use1, use2, use3, split, pick, rewrite, fsplit, fsplit3, fjoin, fjoin3, fpick, fpack, feq_l, await}
+use types.Kit.{Goal, Soaks, Step, step, Item, Post, Seq, runs, lands, mean, ‵, raw, ◌⊛◌, some, later, ◌$◌, move, drop, use1, use2, use3, split, pick, rewrite, fsplit, fjoin, fpick, fpack, await}
 use types.Run.{Opds}
-use types.SemTy.{cells, Arr, Body}
+use types.SemTy.{Body}
 use types.Tokens.{lft_new, lft_end}
 use sound.WpLaws.{FmC}
 use denote.RattleType.{RattleType}
 use denote.Laws.{Rel, Tells, Shows, Makes, Is, shows}
 use denote.Memory.{mem, cell_at, part_of}
-use denote.Shadow.{pure_l, pure_i}
-use denote.Ref.{MutBor, MutRef, at_last}
-use denote.Slice.{slice_val, mut_slice_vals, MutSlice, Room, mut_slice_at, heres, coded_holeys, finally}
-use denote.Index.{row as elements, whole_in, whole_out, opens_slice, closes_slice}
-use denote.Lend.{Held, lends_ref, ref_back, lends_slice, slice_back}
+use denote.Ref.{MutBor, MutRef}
+use denote.Lend.{lends_ref, ref_back}
 use denote.Struct.Declared.{Declared, row}
 use denote.Struct.Steps.{spelt}
 use denote.Struct.Laws as LL
@@ -58,17 +54,6 @@ lent_at l δ x = record { ref_ptr = (l, 0); ghost_name = δ; now = x }
 abbrev pub Lender : RattleType → Lft → GName → ℕ → Fml
 Lender R β δ l = flent β (Body (mem R) l 0 δ)
 
--- a slice under another name, and what whoever holds the slice keeps while it is lent again for β under that name: the lender's part, and
--- its own borrow, open
-abbrev pub renamed : {X : Type 0} → MutBor X → GName → MutBor X
-renamed s δ = record { ref_ptr = s.ref_ptr; ghost_name = δ; now = s.now }
-
-abbrev under : (R : RattleType) → MutBor (List R.Denot) → GName → Fml
-under R s δ = Held R (length s.now) s.ref_ptr.0 s.ref_ptr.1 δ
-
-abbrev pub Holder : (R : RattleType) → Lft → Share → MutBor (List R.Denot) → Lft → GName → Fml
-Holder R κ q s β δ = fsep (flent β (under R s δ)) (fsep (fobor κ q (under R s s.ghost_name)) (fsep (fobs s.ghost_name ((coded_holeys R).code (heres R s.now))) (fauth s.ghost_name ((coded_holeys R).code (heres R s.now)))))
-
 module _ {M : Type 1} {𝓤 : Ura M} {𝓛 : Logic 𝓤} {K : Type 0} {Γ : List (Item 𝓤)} {G : Goal 𝓤 𝓛.H} where
   -- what a local holds is lent for a lifetime
   pub lends_local : K → Soaks G → (R : RattleType) (β : Lft) (x : R.Denot) (vs : List Val) (l : ℕ)
@@ -86,29 +71,9 @@ module _ {M : Type 1} {𝓤 : Ura M} {𝓛 : Logic 𝓤} {K : Type 0} {Γ : List
   local_back t z R P sh vals tl β δ x l =
       step (λ k. use3 𝓛 (later (‵ ((mem R).own_at x l 0))) (ref_back 𝓛 R β δ x l 0) $ await t z $ fpick t (λ vs. fsplit t $ spelt t R P sh vals tl full_share x vs l 0 $ k))
 
-  -- a `&mut` slice that is held is lent again for a lifetime made for a call
-  pub lends_held : K → Soaks G → (R : RattleType) (ℓ : Lifetime) (κ : Lft) (q : Share) (s : MutBor (List R.Denot))
-      → ((α : ℕ) (δ : GName) → Seq K 𝓛 (‵ (flft (α ∷ []) full_share) ∷ ‵ ((MutSlice (named 0) (α ∷ []) R).own_val (renamed s δ) (mut_slice_vals s)) ∷ ‵ (Holder R κ q s (α ∷ []) δ) ∷ Γ) G)
-      → Seq K 𝓛 (‵ ((MutSlice ℓ κ R).own_val s (mut_slice_vals s)) ∷ ‵ (flft κ q) ∷ Γ) G
-  lends_held t z R ℓ κ q s k =
-      fsplit t $ pure_l t (mut_slice_at R s (mut_slice_vals s)) (λ is. fsplit t $ opens_slice t z R s.now s.ref_ptr.0 s.ref_ptr.1 $
-      use1 𝓛 (‵ (cells (mem R) s.now s.ref_ptr.0 s.ref_ptr.1)) (whole_in 𝓛 R s.now s.ref_ptr.0 s.ref_ptr.1) $ lft_new t z (λ α. move t (1 ∷ []) $
-      use1 𝓛 (later (some (λ (δ : GName). ‵ ((MutSlice (named 0) (α ∷ []) R).own_val (renamed s δ) (mut_slice_vals s)) ⊛ ‵ (flent (α ∷ []) (under R s δ))))) (lends_slice 𝓛 R (named 0) (α ∷ []) s.now s.ref_ptr.0 s.ref_ptr.1 is.1) $
-      await t z $ pick t (λ δ. split t $ move t (3 ∷ 4 ∷ 5 ∷ []) $ fjoin3 t $ move t (2 ∷ 0 ∷ []) $ fjoin t $ move t (2 ∷ 1 ∷ []) $ k α δ)))
-
-  -- and is held again at its last contents, once the call is over and that lifetime ended
-  pub held_back : K → Soaks G → (R : RattleType) (ℓ : Lifetime) (κ : Lft) (q : Share) (s : MutBor (List R.Denot)) → Room R (length s.now) → (α : ℕ) (δ : GName) (ys : List R.Denot)
-      → Step K 𝓛 (‵ ((MutSlice ℓ κ R).own_val (at_last s ys) (mut_slice_vals s)) ∷ ‵ (flft κ q) ∷ Γ) G (‵ (flft (α ∷ []) full_share) ∷ ‵ (Holder R κ q s (α ∷ []) δ) ∷ ‵ (finally R δ ys) ∷ Γ) G
-  held_back t z R ℓ κ q s room α δ ys =
-      step (λ k. lft_end t z $ move t (1 ∷ []) $ fsplit t $ move t (2 ∷ 0 ∷ 3 ∷ []) $
-      use3 𝓛 (later (‵ ((Arr (mem R) (length s.now)).own_at ys s.ref_ptr.0 s.ref_ptr.1))) (slice_back 𝓛 R (α ∷ []) δ ys (length s.now) s.ref_ptr.0 s.ref_ptr.1) $ await t z $ fsplit t $ feq_l t (λ e.
-      use1 𝓛 (‵ (elements R full_share ys s.ref_ptr.0 s.ref_ptr.1)) (whole_out 𝓛 R ys s.ref_ptr.0 s.ref_ptr.1) $
-      move t (1 ∷ []) $ fsplit3 t $ move t (3 ∷ []) $ closes_slice t z R s.now ys e s.ref_ptr.0 s.ref_ptr.1 $
-      fjoin t $ pure_i t (mut_slice_at R (at_last s ys) (mut_slice_vals s)) (tt, (tt, tt)) (ap (λ (n : ℕ). slice_val s.ref_ptr n ∷ []) (sym e), subst (Room R) (sym e) room) $ fjoin t $ k))
-
 module _ {M : Type 1} {𝓤 : Ura M} {𝓛 : Logic 𝓤} {K : Type 0} {Γ : List (Item 𝓤)} {E : Env 𝓤 𝓛.H} {C : Calls 𝓤 𝓛.H} {Λ : Loops 𝓤 𝓛.H} {q : Post 𝓤 𝓛.H} {dst : Place} {rest : Code} where
   -- A struct is owned that is the one named: its machine value is about to land, and is known to be that of the struct named.
-  pub lands_as : K → (T : Declared) (L : LL.Laws T) (d r : T.D) (w : Val) → r ≡ d → (Is (row T) d (LL.vals T L d) → Seq K 𝓛 Γ (lands C Λ E dst (LL.val T L d) rest q)) → Seq K 𝓛 (‵ ((row T).own_val r (w ∷ [])) ∷ Γ) (lands C Λ E dst w rest q)
+  lands_as : K → (T : Declared) (L : LL.Laws T) (d r : T.D) (w : Val) → r ≡ d → (Is (row T) d (LL.vals T L d) → Seq K 𝓛 Γ (lands C Λ E dst (LL.val T L d) rest q)) → Seq K 𝓛 (‵ ((row T).own_val r (w ∷ [])) ∷ Γ) (lands C Λ E dst w rest q)
   lands_as t T L d r w e k =
       rewrite t 0 (λ (z : T.D). ‵ ((row T).own_val z (w ∷ []))) e refl $
       peeks t (row T) (Is (row T)) (shows 𝓛 (row T)) d (w ∷ []) (λ is. drop t $

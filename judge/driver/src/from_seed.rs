@@ -2,7 +2,6 @@
 //! does to frames.
 
 mod added;
-mod device;
 
 use crate::cases::{
     Address, Case, Frame, Mode, TagDescriptorDate, FRAME_TYPES, MODES, MOST_BYTES, MOST_ROOM,
@@ -79,7 +78,7 @@ fn random_frame(random: &mut Random, data_length: usize) -> Frame {
 
 fn random_case(random: &mut Random) -> Case {
     let mode = random.one_of(&MODES);
-    match random.below(26) {
+    match random.below(18) {
         0 => {
             let long = random.flag();
             let address = random_address(random, long);
@@ -130,8 +129,7 @@ fn random_case(random: &mut Random) -> Case {
             let length = random.near(21);
             Case::ReadTagDescriptorDate(mode, random.bytes(length))
         }
-        14..=17 => added::random_case(random),
-        _ => device::random_case(random),
+        _ => added::random_case(random),
     }
 }
 

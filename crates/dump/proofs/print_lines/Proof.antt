@@ -3,19 +3,18 @@ use Prim.Native.Nat.{◌+◌, ◌*◌, ◌-◌, ◌≤◌, ◌<◌}
 use native.Mathlib.Omega.{arith}
 use mathlib.Core.Path.{◌≡◌, refl, ap, ◌∙◌}
 use lib.Dec.{ltb, eqb}
-use lib.ListN.{length, take, drop, length-drop}
+use lib.ListN.{length, drop, length-drop}
 use lib.Seq.{take_all}
 use borrow.Author.Tests.{ltb-true, ltb-false, eq-eqb}
-use Rattle.octets.proofs.Tests.{and_first, and_left}
-use Rattle.dump_lines.specs.Lines.{after, printed}
-use Rattle.streams.specs.Passing.{read_size, PassesOn}
-use Rattle.streams.proofs.Passing.{handover, passes_none, passes_more}
-use Rattle.dump.proofs.Passing.{dump_goes}
+use Rattle.line.proofs.machine.Zeros.{and_first}
+use Rattle.dump.specs.Passing.{PassesOn}
+use Rattle.dump.proofs.Answers.{and_left}
+use Rattle.dump.proofs.Passing.{passed, passes_none, passes_more}
 use Rattle.dump.proofs.print_lines.Statement.{statement}
 use Rattle.dump.proofs.print_lines.Tie as tie
 
 abbrev invariant-loop : tie.invariant-loop
-invariant-loop src out₀ dump₀ used₀ asked₀ took₀ out dump used asked took = (length out ≡ length out₀) × (asked ≤ read_size * used) × PassesOn after printed dump₀ src dump used (handover asked took)
+invariant-loop src out₀ dump₀ used₀ asked₀ took₀ out dump used asked took = (length out ≡ length out₀) × (asked ≤ 65536 * used) × PassesOn dump₀ src (passed dump used asked took)
 
 abbrev decreases-loop : tie.decreases-loop
 decreases-loop src out₀ dump₀ used₀ asked₀ took₀ out dump used asked took = length src - used
@@ -27,7 +26,7 @@ turns c =
     ltb-true _ _ (and_first (ltb l.used (length c.before.before.before.before.args.src.now)) (eqb l.took l.asked) c.loop-test.true)
 
 loop-holds : tie.Need-loop-init invariant-loop decreases-loop
-loop-holds c = (refl, omega arith, passes_none dump_goes c.before.before.args.dump c.before.before.args.src.now)
+loop-holds c = (refl, omega arith, passes_none c.before.before.args.dump c.before.before.args.src.now)
 
 sub-print-some : tie.Need-overflow-sub-print-some invariant-loop decreases-loop
 sub-print-some c = omega (arith, turns c)
@@ -42,13 +41,8 @@ print-some-requires : tie.Need-print-some-requires invariant-loop decreases-loop
 print-some-requires c κs = omega arith
 
 -- the turn's bytes behind those so far
-further : (c : tie.After-print-some invariant-loop decreases-loop) → PassesOn after printed c.before.before.before.before.before.before.before.args.dump c.before.before.before.before.before.before.before.args.src.now c.print-some.result.dump (c.before.before.before.before.loop.used + c.print-some.result.used) (handover (c.before.before.before.before.loop.asked + c.print-some.result.handover.asked) (c.before.before.before.before.loop.took + c.print-some.result.handover.took))
-further c =
-    let src = c.before.before.before.before.before.before.before.args.src.now in
-    let used = c.before.before.before.before.loop.used in
-    let rest = take_all (length src - used) (drop used src) (omega (arith, length-drop used src)) in
-    let p = c.print-some.ensures.0 in
-    passes_more dump_goes c.before.before.before.before.loop.invariant.2 p (ap (take c.print-some.result.used) rest) (omega (arith, p.within, ap length rest, length-drop used src, c.before.before.before.before.loop.invariant.2.within))
+further : (c : tie.After-print-some invariant-loop decreases-loop) → PassesOn c.before.before.before.before.before.before.before.args.dump c.before.before.before.before.before.before.before.args.src.now (passed c.print-some.result.dump (c.before.before.before.before.loop.used + c.print-some.result.used) (c.before.before.before.before.loop.asked + c.print-some.result.sent.asked) (c.before.before.before.before.loop.took + c.print-some.result.sent.took))
+further c = passes_more c.before.before.before.before.loop.invariant.2 c.print-some.ensures.0
 
 uses : (c : tie.After-print-some invariant-loop decreases-loop) → 0 < c.print-some.result.used
 uses c =
@@ -56,7 +50,7 @@ uses c =
     let used = c.before.before.before.before.loop.used in
     c.print-some.ensures.1.0 (omega (arith, turns c.before.before.before, ap length (take_all (length src - used) (drop used src) (omega (arith, length-drop used src))), length-drop used src))
 
-asks : (c : tie.After-print-some invariant-loop decreases-loop) → (c.before.before.before.before.loop.asked + c.print-some.result.handover.asked) ≤ read_size * (c.before.before.before.before.loop.used + c.print-some.result.used)
+asks : (c : tie.After-print-some invariant-loop decreases-loop) → (c.before.before.before.before.loop.asked + c.print-some.result.sent.asked) ≤ 65536 * (c.before.before.before.before.loop.used + c.print-some.result.used)
 asks c = omega (arith, uses c, c.before.before.before.before.loop.invariant.0, c.before.before.before.before.loop.invariant.1, c.print-some.ensures.1.1.0)
 
 add-used : tie.Need-overflow-add-used invariant-loop decreases-loop

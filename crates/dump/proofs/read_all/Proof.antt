@@ -6,18 +6,15 @@ use mathlib.Core.Bool.{not}
 use lib.ListN.{length}
 use mir.Syntax.{w64}
 use mir.Val.{to_z, of_z}
-use Rattle.octets.proofs.Tests.{both_ways}
 use Rattle.dump_lines.specs.declared.Dump.{Dump}
-use Rattle.dump_lines.specs.Lines.{fresh_dump, after}
-use Rattle.streams.specs.Passing.{read_size, Behind}
-use Rattle.streams.proofs.Answers.{goes_further}
-use Rattle.streams.proofs.Passing.{behind_none, behind_more, used_below}
-use Rattle.dump.proofs.Passing.{dump_goes}
+use Rattle.dump.specs.Passing.{Behind}
+use Rattle.dump.proofs.Answers.{both_ways, goes_further}
+use Rattle.dump.proofs.Passing.{behind_none, behind_more, used_below}
 use Rattle.dump.proofs.read_all.Statement.{statement}
 use Rattle.dump.proofs.read_all.Tie as tie
 
 abbrev invariant-loop : tie.invariant-loop
-invariant-loop input₀ out₀ dump₀ heard₀ reads₀ input out dump heard reads = (length input ≡ length input₀) × (length out ≡ length out₀) × (heard + read_size * reads < 2 ^ 64) × Behind after fresh_dump dump heard
+invariant-loop input₀ out₀ dump₀ heard₀ reads₀ input out dump heard reads = (length input ≡ length input₀) × (length out ≡ length out₀) × (heard + 65536 * reads < 2 ^ 64) × Behind dump heard
 
 abbrev decreases-loop : tie.decreases-loop
 decreases-loop input₀ out₀ dump₀ heard₀ reads₀ input out dump heard reads = reads
@@ -26,16 +23,16 @@ new-requires : tie.Need-new-requires invariant-loop decreases-loop
 new-requires c κs = tt
 
 loop-holds : tie.Need-loop-init invariant-loop decreases-loop
-loop-holds c = (refl, refl, omega arith, subst (λ (d : Dump). Behind after fresh_dump d 0) (sym c.new.ensures) (behind_none dump_goes fresh_dump))
+loop-holds c = (refl, refl, omega arith, subst (λ (d : Dump). Behind d 0) (sym c.new.ensures) behind_none)
 
 read-on-requires : tie.Need-read-on-requires invariant-loop decreases-loop
 read-on-requires c κs = (omega arith, (omega arith, omega arith))
 
 -- the turn's bytes behind all before, and how many these can be
-further : (c : tie.After-read-on invariant-loop decreases-loop) → Behind after fresh_dump c.read-on.result.passed.dump (c.before.before.before.before.loop.heard + c.read-on.result.passed.used)
-further c = behind_more dump_goes c.before.before.before.before.loop.invariant.3 c.read-on.ensures.1.0
+further : (c : tie.After-read-on invariant-loop decreases-loop) → Behind c.read-on.result.passed.dump (c.before.before.before.before.loop.heard + c.read-on.result.passed.used)
+further c = behind_more c.before.before.before.before.loop.invariant.3 c.read-on.ensures.1.0
 
-small : (c : tie.After-read-on invariant-loop decreases-loop) → c.read-on.result.passed.used ≤ read_size
+small : (c : tie.After-read-on invariant-loop decreases-loop) → c.read-on.result.passed.used ≤ 65536
 small c = omega (arith, used_below c.read-on.result.n c.read-on.new.1.0 c.read-on.ensures.1.0, c.read-on.auto.1.0, c.before.before.before.before.loop.invariant.0)
 
 add-heard : tie.Need-overflow-add-heard invariant-loop decreases-loop

@@ -5,8 +5,7 @@ use mathlib.Core.Path.{◌≡◌, ap, ap₂, ◌∙◌}
 use lib.ListN.{length, replicate}
 use borrow.Author.Rules.{rules}
 use Rattle.framing.specs.Payload.{carries}
-use Rattle.commands.specs.Variables.{groups_of, reads_variables}
-use Rattle.response.specs.Sizes.{most_variables}
+use Rattle.commands.specs.Variables.{most_variables, groups_of, reads_variables}
 use Rattle.commands.proofs.read_device_vars.Groups.{placed, placed_turn}
 use Rattle.commands.proofs.read_device_vars.decode_groups.Statement.{statement}
 use Rattle.commands.proofs.read_device_vars.decode_groups.Tie as tie

@@ -4,8 +4,7 @@ use lib.ListN.{replicate}
 use borrow.Author.Rules.{rules}
 use Rattle.framing.specs.Payload.{judgement_of}
 use Rattle.commands.specs.declared.read_device_vars.DeviceVariable.{DeviceVariable}
-use Rattle.commands.specs.Variables.{reads_variables}
-use Rattle.response.specs.Sizes.{most_variables}
+use Rattle.commands.specs.Variables.{most_variables, reads_variables}
 use Rattle.commands.proofs.read_device_vars.refused.Statement.{statement}
 use Rattle.commands.proofs.read_device_vars.refused.Tie as tie
 

@@ -3,7 +3,7 @@ use native.Mathlib.Omega.{arith}
 use mathlib.Core.Path.{sym}
 use lib.Seq.{length-take-le}
 use borrow.Author.Rules.{rules}
-use Rattle.response.specs.Sizes.{tag_size}
+use Rattle.commands.specs.Modes.{tag_size}
 use Rattle.commands.proofs.read_unique_id_by_tag.Tags.{tag_small, tag_lent}
 use Rattle.commands.proofs.read_unique_id_by_tag.encode_data.Statement.{statement}
 use Rattle.commands.proofs.read_unique_id_by_tag.encode_data.Tie as tie

@@ -5,7 +5,7 @@ use mathlib.Core.Bool.{Bool}
 use lib.Dec.{ltb, leb}
 use lib.ListN.{length}
 use borrow.Author.Tests.{lt-ltb, ltb-true, leb-true, leb-false}
-use Rattle.octets.proofs.Tests.{and_first, and_second}
+use Rattle.line.proofs.machine.Zeros.{and_first, and_second}
 use Rattle.dump_lines.specs.Text.{line_max}
 use Rattle.dump_lines.specs.Lines.{dump}
 use Rattle.dump_lines.proofs.Along.{Took, took_none, took_more, took_all, took_text}

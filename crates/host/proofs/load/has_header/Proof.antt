@@ -10,7 +10,7 @@ use lib.Seq.{take-suc}
 use borrow.Author.Tests.{eqb-true, eq-eqb}
 use Rattle.octets.specs.Digits.{from_digits}
 use Rattle.octets.proofs.Digits.{from_snoc}
-use Rattle.octets.proofs.Tests.{and_first, and_second}
+use Rattle.line.proofs.machine.Zeros.{and_first, and_second}
 use Rattle.host.specs.Block.{header_size, header_in}
 use Rattle.host.proofs.load.has_header.Statement.{statement}
 use Rattle.host.proofs.load.has_header.Tie as tie

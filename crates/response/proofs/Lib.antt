@@ -1,6 +1,0 @@
-pub mod Fields
-pub mod Weights
-pub mod Gathered
-pub mod Untouched
-pub mod Pushing
-pub mod Determined
