@@ -7,7 +7,7 @@ use lib.ListN.{length, get_or, take}
 use lib.Dec.{lit<}
 use borrow.Author.Tests.{lt-ltb, le-ltb}
 use Rattle.octets.specs.Digits.{Below, digits, from_digits}
-use Rattle.octets.proofs.Digits.{below_at, digits_from, from_digits_whole}
+use Rattle.octets.proofs.Bases.{below_at, digits_from, from_digits_whole}
 use Rattle.commands.proofs.Places.{taken}
 use Rattle.commands.specs.declared.identity.DeviceIdentity.{DeviceIdentity}
 use Rattle.commands.specs.Identity.{identity_size, identity_at, identity_bytes, IdentityLimited, identified, unidentified, identity}

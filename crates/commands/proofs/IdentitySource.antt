@@ -14,7 +14,7 @@ use Rattle.refusal.specs.Outcome.{ends, done}
 use Rattle.octets.specs.Digits.{Below, digits, from_digits}
 use Rattle.octets.specs.Put.{put}
 use Rattle.octets.specs.Source.{comes, Run, as_u8, shift_right, shift_left}
-use Rattle.octets.proofs.Digits.{below_at}
+use Rattle.octets.proofs.Bases.{below_at}
 use Rattle.octets.proofs.Put.{stores_put}
 use Rattle.commands.specs.Identity.{identity_size, identified, identity}
 use Rattle.commands.specs.IdentitySource.{source_decoded_u24, source_encoded_u24, source_identity}

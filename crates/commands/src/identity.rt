@@ -7,7 +7,7 @@ use refusal::Refusal;
 
 const IDENTITY_SIZE: usize = 12;
 
-#[derive(Drop)]
+#[derive(Clone, Copy)]
 pub struct DeviceIdentity {
     pub expansion_code: u8,
     pub expanded_device_type: u16,
@@ -21,7 +21,7 @@ pub struct DeviceIdentity {
     pub device_id: u32,
 }
 
-#[derive(Drop)]
+#[derive(Clone, Copy)]
 pub enum IdentityRead {
     Identity(DeviceIdentity),
     Refused(Refusal),

@@ -1,5 +1,7 @@
 // The commands (commands/mod.rs), a module each under the Rust's name, and what a device's identity, a
 // measured value and a tag with descriptor and date are.
+#![tactic(auto)]
+
 mod identity;
 pub mod read_device_vars;
 pub mod read_unique_id_by_tag;

@@ -21,7 +21,7 @@ const GROUP_SIZE: usize = 8;
 
 // A unit is its raw byte. The value is that of `bits`, which are the line's own: a value that is the NaN
 // has lost which of its patterns the line sent.
-#[derive(Drop)]
+#[derive(Clone, Copy)]
 pub struct DeviceVariable {
     pub device_var_code: u8,
     pub classification: u8,
@@ -32,7 +32,7 @@ pub struct DeviceVariable {
 }
 
 // The variables are the first `count`; all zeros follow them, and stand beside a refusal.
-#[derive(Drop)]
+#[derive(Clone, Copy)]
 pub struct ReadDeviceVarsResponse {
     pub verdict: PayloadVerdict,
     pub count: u8,

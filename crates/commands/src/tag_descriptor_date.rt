@@ -27,7 +27,7 @@ const YEAR_AT: usize = MONTH_AT + 1;
 pub(crate) const LAYOUT_SIZE: usize = YEAR_AT + 1;
 
 // Beside a refusal every byte is zero.
-#[derive(Drop)]
+#[derive(Clone, Copy)]
 pub struct TagDescriptorDate {
     pub verdict: PayloadVerdict,
     pub tag: [u8; TAG_LENGTH],

@@ -3,6 +3,8 @@
 // the bytes of each read are handed to it, once and in order, and its lines to the system; what is left
 // to trust are the calls of the system themselves, the read in `read_on` and the write in `print`.
 // Rattle has no exit status: what goes wrong is said on standard error, and then there is no last line.
+#![tactic(auto)]
+
 ghost use Rattle.std.specs.Prelude.{◌≡◌, ◌≤◌, ◌<◌, length, take, eqb, pos, true, false, ◌&&◌};
 ghost use Rattle.std.specs.Int.Signed.{lt_z};
 ghost use Rattle.io.specs.Counts.{clamp_len};

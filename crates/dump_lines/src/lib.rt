@@ -1,5 +1,7 @@
 // The dump as a value: what it holds between two reads, and the lines and totals of the bytes that it
 // is handed. Document 01, 'Examples'. The program `dump` only reads and writes.
+#![tactic(auto)]
+
 mod dump_text;
 
 ghost use Rattle.std.specs.Prelude.{◌≡◌, List, ℕ, ◌+◌, ◌≤◌, length};
@@ -17,7 +19,7 @@ use line::{Ended, ROOM, State};
 use refusal::Written;
 
 // Each stays at the largest number that it can be.
-#[derive(Drop)]
+#[derive(Clone, Copy)]
 pub struct Totals {
     pub bytes: u64,
     pub frames: u64,
@@ -25,7 +27,7 @@ pub struct Totals {
 }
 
 // A decoder's state with its bytes, and the totals so far. The bytes so far are the next byte's place.
-#[derive(Drop)]
+#[derive(Clone, Copy)]
 pub struct Dump {
     state: State,
     bytes: [u8; ROOM],
@@ -33,14 +35,14 @@ pub struct Dump {
 }
 
 // How many bytes were taken, how many were written, and the dump for what follows.
-#[derive(Drop)]
+#[derive(Clone, Copy)]
 pub struct Taken {
     pub dump: Dump,
     pub used: usize,
     pub written: usize,
 }
 
-#[derive(Drop)]
+#[derive(Clone, Copy)]
 struct Turned {
     state: State,
     totals: Totals,

@@ -1,6 +1,8 @@
 // How the library is used, in one conversation with a device: a request is written, what then comes over
 // the line is heard byte by byte, and the readings that an answer carries are taken out of it. The line is
 // standard input, of which crates/example/stdin has a recording.
+#![tactic(auto)]
+
 mod words;
 
 use commands::read_device_vars::{DeviceVariable, MAX_DEVICE_VARS, ReadDeviceVarsResponse};

@@ -11,14 +11,14 @@ use line::{Answer, Ended, Frame, Heard, Moved, ROOM, State};
 use refusal::Refusal;
 
 // The bytes are those of the address and of the data, zero where nothing was read.
-#[derive(Drop)]
+#[derive(Clone, Copy)]
 pub struct Decoder {
     pub state: State,
     pub bytes: [u8; ROOM],
 }
 
 // What feeding a byte comes to: what is heard, and the decoder for the next byte.
-#[derive(Drop)]
+#[derive(Clone, Copy)]
 pub struct Fed {
     pub heard: Heard,
     pub next: Decoder,

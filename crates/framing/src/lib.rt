@@ -1,5 +1,7 @@
 // Bytes and frames: the decoder by value (decode.rs) over the code of one byte, the encoder (encode.rs), and
 // what a response carries (ADDED). Callers find the types that a decoder answers with here too.
+#![tactic(auto)]
+
 mod byte;
 mod decode;
 mod encode;

@@ -7,7 +7,7 @@ ghost use Rattle.framing.specs.Payload.{judgement_of, judged, payload_judgement,
 use refusal::Refusal;
 use types::FrameType;
 
-#[derive(Drop)]
+#[derive(Clone, Copy)]
 pub enum PayloadVerdict {
     Carried,
     Refused(Refusal),

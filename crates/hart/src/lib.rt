@@ -1,5 +1,7 @@
 // The library for C and Rust hosts: what they call, by these names. include/hart.h says how; document 01,
 // 'For the C host'.
+#![tactic(auto)]
+
 ghost use Rattle.std.specs.Prelude.{◌≡◌};
 ghost use Rattle.host.specs.Block.{tells, fed_block, clears, cleared_block};
 

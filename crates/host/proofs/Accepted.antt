@@ -9,7 +9,7 @@ use lib.ListN.{length, take, drop, take-append-drop, length-drop}
 use lib.Seq.{take_at, drop_at, length-take-le}
 use borrow.Author.Tests.{eqb-true, eq-eqb, ltb-true, leb-true}
 use Rattle.octets.specs.Digits.{digits, from_digits}
-use Rattle.octets.proofs.Digits.{length_digits, from_digits_whole, digits_from}
+use Rattle.octets.proofs.Bases.{length_digits, from_digits_whole, digits_from}
 use Rattle.types.specs.Address.{head_length}
 use Rattle.types.proofs.Addresses.{head_length_le}
 use Rattle.line.specs.machine.Step.{opening_in}

@@ -12,7 +12,7 @@ use borrow.Author.Tests.{eq-eqb, ne_eqb, lt-leb, le-leb}
 use borrow.Rule.Slice.PartMut.{mid_of, put_mid}
 use Rattle.octets.specs.Digits.{digits}
 use Rattle.octets.specs.Put.{put}
-use Rattle.octets.proofs.Digits.{length_digits}
+use Rattle.octets.proofs.Bases.{length_digits}
 use Rattle.octets.proofs.Put.{put_front}
 use Rattle.line.specs.machine.Room.{decoder_room}
 use Rattle.line.specs.machine.Step.{moved_at, stored_at}

@@ -8,7 +8,7 @@ use lib.Dec.{leb}
 use lib.ListN.{length, drop, length-set, length-drop, length-append}
 use lib.Seq.{take-append_seam, drop-append_seam}
 use Rattle.octets.specs.Digits.{digits}
-use Rattle.octets.proofs.Digits.{length_digits}
+use Rattle.octets.proofs.Bases.{length_digits}
 use Rattle.octets.proofs.Put.{put_front}
 use Rattle.line.specs.Pieces.{Bytes, joined}
 use Rattle.line.specs.Events.{Event, dictated, gather}

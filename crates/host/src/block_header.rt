@@ -48,7 +48,7 @@ pub(crate) fn long_bit(long: bool) -> u8
 // The fields of a header, each phase's in one shape: they are packed in one place, and `header_of` is small
 // enough for the compiler to take it into its callers. The counts, of preambles or of data, and the command
 // are one number, in which each stands as in the header.
-#[derive(Drop)]
+#[derive(Clone, Copy)]
 struct Fields {
     phase: u8,
     frame_type: u8,

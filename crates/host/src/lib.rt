@@ -1,5 +1,7 @@
 // A decoder in a host's own memory: the block, the record, and the two calls over them that the crate `hart`
 // gives to C. Document 01, 'For the C host'.
+#![tactic(auto)]
+
 mod block_header;
 mod feed;
 mod load;

@@ -3,7 +3,7 @@ use crate::state::{Head, State};
 use refusal::Refusal;
 
 // What a byte ended.
-#[derive(Drop)]
+#[derive(Clone, Copy)]
 pub enum Ended {
     Nothing,
     // The data are the first `length` of the data bytes.
@@ -11,7 +11,7 @@ pub enum Ended {
     Refused(Refusal),
 }
 
-#[derive(Drop)]
+#[derive(Clone, Copy)]
 pub struct Moved {
     pub state: State,
     pub ended: Ended,

@@ -9,7 +9,7 @@ const LAST: usize = DECIMAL_ROOM - 1;
 
 // The digits are those of `text` from place `from` on; zeros stand before them. They are found last
 // one first, so they stand at the end.
-#[derive(Drop)]
+#[derive(Clone, Copy)]
 pub struct Digits {
     pub text: [u8; DECIMAL_ROOM],
     pub from: usize,

@@ -1,5 +1,7 @@
 // Numbers, bits and the check of a frame, as bytes on the line carry them; bytes copied and
 // filled in; and numbers as text.
+#![tactic(auto)]
+
 mod bits;
 mod checksum;
 mod copy;

@@ -5,7 +5,7 @@ use mathlib.Core.Path.{◌≡◌, ap, ◌∙◌}
 use mathlib.Core.List.{[], ◌∷◌}
 use lib.Dec.{lit<}
 use Rattle.octets.specs.Digits.{Below, from_digits, digits}
-use Rattle.octets.proofs.Digits.{from_digits_whole, from_below, digits_from}
+use Rattle.octets.proofs.Bases.{from_digits_whole, from_below, digits_from}
 use Rattle.packed_string.specs.declared.text_group.Mode.{Mode}
 use Rattle.packed_string.specs.declared.text_group.Mode.TheVariants.{Crate, Standard}
 use Rattle.packed_string.specs.Group.{code_of, pack_group, unpack_group}

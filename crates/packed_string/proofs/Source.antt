@@ -14,7 +14,7 @@ use Rattle.refusal.specs.Outcome.{Outcome, ends, done, wrote}
 use Rattle.octets.specs.Digits.{Below}
 use Rattle.octets.specs.Put.{put, first_parts}
 use Rattle.octets.specs.Source.{Run, comes, shift_right, as_u8, shift_left}
-use Rattle.octets.proofs.Digits.{below_at}
+use Rattle.octets.proofs.Bases.{below_at}
 use Rattle.octets.proofs.Put.{length-put, put-wrote, stores_put}
 use Rattle.octets.proofs.Parts.{length_parts, parts_start, parts_turn}
 use Rattle.packed_string.specs.declared.text_group.Mode.TheVariants.{Crate}

@@ -1,5 +1,7 @@
 // Packed text: in the mode of the Rust's packed_string.rs here, in the mode of the HART documents (ADDED),
 // which the Rust does not have, in standard_text. Below both are one group and groups at their places.
+#![tactic(auto)]
+
 mod bad_character;
 mod standard_text;
 mod text_group;

@@ -5,7 +5,7 @@ ghost use Rattle.packed_string.specs.Group.{pack_group, unpack_group, code_of, c
 
 // How a character becomes a code, and a code a character: the Rust's way or the HART documents'. The
 // commands take it for all in which the two differ.
-#[derive(Drop)]
+#[derive(Clone, Copy)]
 pub enum Mode {
     Crate,
     Standard,

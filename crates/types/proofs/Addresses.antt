@@ -14,7 +14,7 @@ use Rattle.refusal.specs.Outcome.{Reply, ends, wrote, refuses}
 use Rattle.octets.specs.Bit.{bit}
 use Rattle.octets.specs.Digits.{Below}
 use Rattle.octets.specs.Put.{put}
-use Rattle.octets.proofs.Digits.{from_digits_lem, digits_below}
+use Rattle.octets.proofs.Bases.{from_digits_lem, digits_below}
 use Rattle.octets.proofs.Put.{lent_put}
 use Rattle.types.specs.declared.delimiter.Opening.{Opening}
 use Rattle.types.specs.declared.first.MasterRole.{MasterRole}

@@ -19,7 +19,7 @@ pub const LONG_ADDRESS_LENGTH: usize = 5;
 // As many bytes as any frame has between its delimiter and its command.
 pub const HEAD_ROOM: usize = LONG_ADDRESS_LENGTH;
 
-#[derive(Drop)]
+#[derive(Clone, Copy)]
 pub enum Address {
     Short {
         master: MasterRole,
@@ -36,7 +36,7 @@ pub enum Address {
 }
 
 // An address and how many bytes it took, or why none was read.
-#[derive(Drop)]
+#[derive(Clone, Copy)]
 pub enum AddressRead {
     Read { address: Address, used: usize },
     Refused(Refusal),

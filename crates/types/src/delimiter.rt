@@ -7,7 +7,7 @@ use crate::consts::delimiter::{
     RESPONSE_SHORT,
 };
 
-#[derive(Drop)]
+#[derive(Clone, Copy)]
 pub enum FrameType {
     Request,
     Response,
@@ -28,14 +28,14 @@ impl FrameType {
 }
 
 // What a delimiter says of the frame that it opens.
-#[derive(Drop)]
+#[derive(Clone, Copy)]
 pub struct Opening {
     pub frame_type: FrameType,
     pub is_long: bool,
 }
 
 // A byte read in a delimiter's place.
-#[derive(Drop)]
+#[derive(Clone, Copy)]
 pub enum Delimiter {
     Known(Opening),
     Unknown,

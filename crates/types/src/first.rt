@@ -8,7 +8,7 @@ use crate::consts::address::{
 };
 use octets::has_bit;
 
-#[derive(Drop)]
+#[derive(Clone, Copy)]
 pub enum MasterRole {
     Primary,
     Secondary,

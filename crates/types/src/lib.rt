@@ -1,5 +1,7 @@
 // What a frame is made of (types.rs), and the numbers of consts.rs: the delimiter and the frame's type,
 // addresses, the two status bytes of a response.
+#![tactic(auto)]
+
 mod address;
 pub mod consts;
 mod delimiter;

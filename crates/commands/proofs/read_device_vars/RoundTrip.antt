@@ -12,7 +12,7 @@ use lib.Dec.{ltb, lit<}
 use lib.Ieee.{binary32, to_bits, nan_bits}
 use Rattle.refusal.specs.Outcome.{done, ends, wrote, refuses}
 use Rattle.octets.specs.Digits.{Below}
-use Rattle.octets.proofs.Digits.{below_at, digits_from, from_digits_whole, from_below}
+use Rattle.octets.proofs.Bases.{below_at, digits_from, from_digits_whole, from_below}
 use Rattle.commands.specs.Worth.{worth, Sound}
 use Rattle.commands.proofs.Worths.{keeps_bits, sound}
 use Rattle.commands.proofs.Places.{standing, taken}

@@ -9,7 +9,7 @@ use lib.Dec.{ltb, lit<}
 use lib.ListN.{length, get_or}
 use borrow.Author.Tests.{eq-eqb, ne_eqb, lt-ltb, le-ltb, ltb-true, ltb-false}
 use Rattle.octets.specs.Digits.{from_digits}
-use Rattle.octets.proofs.Digits.{below_at}
+use Rattle.octets.proofs.Bases.{below_at}
 use Rattle.types.specs.declared.first.MasterRole.TheVariants.{Primary, Secondary}
 use Rattle.types.specs.declared.address.Address.TheVariants.{Short, Long}
 use Rattle.types.specs.First.{master_of}

@@ -9,7 +9,7 @@ use lib.ListN.{take, get_or}
 use lib.Seq.{take-suc}
 use borrow.Author.Tests.{eqb-true, eq-eqb}
 use Rattle.octets.specs.Digits.{from_digits}
-use Rattle.octets.proofs.Digits.{from_snoc}
+use Rattle.octets.proofs.Bases.{from_snoc}
 use Rattle.line.proofs.machine.Zeros.{and_first, and_second}
 use Rattle.host.specs.Block.{header_size, header_in}
 use Rattle.host.proofs.load.has_header.Statement.{statement}

@@ -8,7 +8,7 @@ use lib.Arith.{digits_lt}
 use lib.ListN.{take, get_or}
 use lib.Seq.{take-suc}
 use Rattle.octets.specs.Digits.{from_digits}
-use Rattle.octets.proofs.Digits.{from_snoc}
+use Rattle.octets.proofs.Bases.{from_snoc}
 use Rattle.host.specs.Block.{header_size}
 use Rattle.host.proofs.load.header_in.Statement.{statement}
 use Rattle.host.proofs.load.header_in.Tie as tie

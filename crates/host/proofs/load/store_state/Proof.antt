@@ -7,7 +7,7 @@ use lib.ListN.{length, set, take, drop, length-set, length-append}
 use lib.Seq.{set_split, drop_at, length-take-le, append_snoc}
 use Rattle.octets.specs.Digits.{digits}
 use Rattle.octets.specs.Put.{put}
-use Rattle.octets.proofs.Digits.{length_digits}
+use Rattle.octets.proofs.Bases.{length_digits}
 use Rattle.octets.proofs.Put.{put-nil, put_front}
 use Rattle.host.specs.Block.{header_size}
 use borrow.Author.Rules.{rules}

@@ -6,7 +6,7 @@ use lib.ListN.{get_or}
 use lib.Dec.{lit<}
 use borrow.Author.Rules.{rules}
 use Rattle.octets.specs.Digits.{digits, from_digits}
-use Rattle.octets.proofs.Digits.{below_at, digits_below}
+use Rattle.octets.proofs.Bases.{below_at, digits_below}
 use Rattle.packed_string.specs.declared.text_group.Mode.{Mode}
 use Rattle.packed_string.specs.Group.{char_of, unpack_group}
 use Rattle.packed_string.proofs.text_group.unpacked_group.Statement.{statement}
