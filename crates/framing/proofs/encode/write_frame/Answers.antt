@@ -3,7 +3,7 @@ use Prim.Native.Nat.{ℕ, ◌+◌, ◌-◌, ◌≤◌}
 use native.Mathlib.Omega.{arith}
 use mathlib.Core.Path.{◌≡◌, refl, sym, ap, ap₂, ◌∙◌}
 use mathlib.Core.List.{List, [], ◌∷◌, ◌++◌, append_assoc}
-use lib.ListN.{length, set, take, drop, length-append, length-set}
+use lib.ListN.{length, set, take, drop, length-append}
 use Rattle.octets.specs.Check.{check, check_from}
 use Rattle.octets.specs.Put.{put, put_if_fits}
 use Rattle.octets.proofs.Check.{check-append}
@@ -17,9 +17,7 @@ use Rattle.line.specs.Encode.{opening_of, wire_of, layout, total}
 use Rattle.framing.specs.Code.{head, data_place}
 use Rattle.line.proofs.Layouts.{length-preambles}
 use Rattle.framing.proofs.Heads.{past_preambles, length-head, length-body, data_put}
-use borrow.Author.Rules.{rules}
-use Rattle.framing.proofs.encode.write_frame.Statement.{statement}
-use Rattle.framing.proofs.encode.write_frame.Tie as tie
+use Rattle.framing.proofs.encode.write_frame.Goals as goal
 
 module _ (t : FrameType) (a : Address) (c n : ℕ) where
   -- head, data that are copied, and check
@@ -45,31 +43,11 @@ module _ (t : FrameType) (a : Address) (c n : ℕ) where
       ∙ put-snoc l 0 (preambles n ++ body w) k to (omega arith) (omega arith)
       ∙ ap (λ (x : ℕ). put l 0 ((preambles n ++ body w) ++ (x ∷ []))) checked
 
-same_length : tie.Need-same-length
-same_length c = simp length-set (c.before.before.copy-into.auto.1.0 ∙ c.before.before.before.before.before.before.before.before.before.before.write-head.auto.1.1.1.1.1.0)
-
-returns : tie.Need-returns
+pub returns : goal.returns
 returns c =
-    let a = c.before.before.before.before.before.before.before.before.before.before.before.before.before.before.args in
+    let a = c.args in
     let ds = a.«data».now in
-    let n = a.preamble-count in
-    let h = c.before.before.before.before.before.before.before.before.before.before.write-head in
-    let checked = c.before.before.before.before.checksum-from.ensures ∙ ap (λ (k : ℕ). check_from k ds) c.before.before.before.before.before.check-of-head.ensures in
-    layout_made a.frame-type a.address a.command n ds a.buf.now h.result (h.result + length ds) c.before.before.before.before.checksum-from.result h.ensures.0 h.ensures.1 c.before.before.copy-into.ensures refl checked (omega arith)
-
-pub write_frame_spec : {M : Type 1} → statement M
-write_frame_spec =
-    tie.close
-    (tie.spec
-    (λ c. search rules)
-    (λ c κs. search rules)
-    (λ c. search rules)
-    (λ c. search rules)
-    (λ c. search rules)
-    (λ c κs. search rules)
-    (λ c κs. search rules)
-    (λ c κs. search rules)
-    (λ c. search rules)
-    (λ c. search rules)
-    same_length
-    returns)
+    let n = a.preamble_count in
+    let h = c.write_head-at in
+    let checked = c.checksum_from-checksum.ensures ∙ ap (λ (k : ℕ). check_from k ds) c.check_of_head.ensures in
+    layout_made a.frame_type a.address a.command n ds a.buf.now h.result (h.result + length ds) c.checksum_from-checksum.result h.ensures.0 h.ensures.1 c.copy_into.ensures refl checked (omega arith)

@@ -1,0 +1,8 @@
+-- `Decoder::new` meets its contract.
+use mathlib.Core.Path.{refl}
+use Rattle.line.specs.machine.Feed.{blank}
+use Rattle.framing.proofs.decode.Decoder.new.Goals as goal
+
+pub returns : goal.returns
+unfolding blank
+returns c = refl
