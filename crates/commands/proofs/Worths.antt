@@ -31,18 +31,18 @@ module _ (status bits : ℕ) where
     unfolding worth
     worth_fixed e = rw (e, ne_eqb (exponent bits) 255 number)
 
-is_nan : (v : Float) → is_nan v ≡ true → v ≡ nan
+is_nan_lem : (v : Float) → is_nan v ≡ true → v ≡ nan
 unfolding is_nan
-is_nan nan e = refl
-is_nan (inf s) e = cc
-is_nan (fin s m x) e = cc
+is_nan_lem nan e = refl
+is_nan_lem (inf s) e = cc
+is_nan_lem (fin s m x) e = cc
 
 pub untrue : (b : Bool) → b ≡ false → T (not b)
 untrue b e = rw e tt
 
 -- a pattern of a NaN gives the NaN, and any other float has its pattern's bits
 pub nan_value : (bits : ℕ) → nan_bits binary32 bits ≡ true → float_of bits ≡ nan
-nan_value bits e = is_nan (float_of bits) (sym (nan_bits_is binary32 bits) ∙ e)
+nan_value bits e = is_nan_lem (float_of bits) (sym (nan_bits_is binary32 bits) ∙ e)
 
 pub keeps_bits : (bits : ℕ) → bits < 2 ^ 32 → nan_bits binary32 bits ≡ false → to_bits binary32 (float_of bits) ≡ bits
 keeps_bits bits h e = to_bits-of_bits binary32 bits h (untrue _ (sym (nan_bits_is binary32 bits) ∙ e))

@@ -19,11 +19,15 @@ Fit (w ∷ ws) (n ∷ ns) = (n < 2 ^ w) × Fit ws ns
 
 pub packed_small : (ws ns : List ℕ) → Fit ws ns → side_by_side ws ns < 2 ^ width_of ws
 packed_small [] [] f = rw pow-zero (lit< tt)
+packed_small [] (n ∷ ns) f = elim f [ ]
+packed_small (w ∷ ws) [] f = elim f [ ]
 packed_small (w ∷ ws) (n ∷ ns) f = rw (pow-add 2 w (width_of ws)) (digits_lt f.0 (packed_small ws ns f.1))
 
 -- also where something stands in front of the fields
 packed_behind : (front : ℕ) (ws ns : List ℕ) → Fit ws ns → apart ws (front * 2 ^ width_of ws + side_by_side ws ns) ≡ ns
 packed_behind front [] [] f = refl
+packed_behind front [] (n ∷ ns) f = elim f [ ]
+packed_behind front (w ∷ ws) [] f = elim f [ ]
 packed_behind front (w ∷ ws) (n ∷ ns) f =
     let end = 2 ^ width_of ws in
     let rest = side_by_side ws ns in

@@ -1,0 +1,30 @@
+-- Each refusal by its test, and the rest by the layout that was put.
+use Prim.Native.Nat.{ℕ, ◌≤◌}
+use native.Mathlib.Omega.{arith}
+use mathlib.Core.Path.{◌≡◌, sym, ap, ◌∙◌}
+use mathlib.Core.List.{[], ◌∷◌, ◌++◌}
+use Rattle.refusal.specs.Outcome.{refuses}
+use Rattle.octets.proofs.Put.{put-wrote}
+use Rattle.commands.specs.Modes.{bad_in}
+use Rattle.commands.specs.TagDescriptorDate.{texts_length, tag_descriptor_date_layout}
+use Rattle.commands.proofs.tag_descriptor_date.Layouts.{length-layout, requested_small, requested_bad, requested_fits}
+use Rattle.commands.proofs.write_tag_descriptor_date.encode_data.Goals as goal
+
+pub returns-then-buf-lt-LAYOUT_SIZE : goal.returns-then-buf-lt-LAYOUT_SIZE
+returns-then-buf-lt-LAYOUT_SIZE c =
+    let a = c.args in
+    sym (requested_small a.mode a.tag a.descriptor a.day a.month a.year a.buf.now (omega arith))
+
+pub returns-then-place-lt-TEXTS_LENGTH : goal.returns-then-place-lt-TEXTS_LENGTH
+returns-then-place-lt-TEXTS_LENGTH c =
+    let a = c.args in
+    let place : c.bad_place_in_texts-place.result ≡ bad_in a.mode (a.tag ++ a.descriptor) = c.bad_place_in_texts-place.ensures in
+    ap (λ (n : ℕ). refuses 7 (n ∷ []) a.buf.now) place
+    ∙ sym (requested_bad a.mode a.tag a.descriptor a.day a.month a.year (omega arith) (omega arith) a.buf.now (omega arith) (omega arith))
+
+pub returns : goal.returns
+returns c =
+    let a = c.args in
+    let good : texts_length ≤ bad_in a.mode (a.tag ++ a.descriptor) = omega (arith, c.bad_place_in_texts-place.ensures) in
+    put-wrote a.buf.now (tag_descriptor_date_layout a.mode a.tag a.descriptor a.day a.month a.year) c.write_layout.ensures (sym (length-layout a.mode a.tag a.descriptor a.day a.month a.year (omega arith) (omega arith)))
+    ∙ sym (requested_fits a.mode a.tag a.descriptor a.day a.month a.year (omega arith) (omega arith) a.buf.now (omega arith) good)

@@ -1,0 +1,51 @@
+-- `write_frame` meets its contract.
+use Prim.Native.Nat.{ℕ, ◌+◌, ◌-◌, ◌≤◌}
+use native.Mathlib.Omega.{arith}
+use mathlib.Core.Path.{◌≡◌, refl, sym, ap, ap₂, ◌∙◌}
+use mathlib.Core.List.{List, [], ◌∷◌, ◌++◌, append_assoc}
+use lib.ListN.{length, set, take, drop, length-append, length-drop}
+use lib.Seq.{length-take-le}
+use Rattle.octets.specs.Put.{put, put_if_fits}
+use Rattle.octets.proofs.Put.{put-nil, length-put, put-put, put_fitting, put-head}
+use Rattle.types.specs.Address.{address_length, head_room, is_long, address_bytes, read_address}
+use Rattle.types.proofs.Addresses.{address_length_le, length-address, address_taken, address_first, long_read}
+use Rattle.line.specs.machine.Step.{opening_in}
+use Rattle.line.specs.Layout.{address_of}
+use Rattle.line.specs.machine.Frames.{wire_at}
+use Rattle.host.specs.Record.{frame_record}
+use Rattle.host.proofs.records.write_frame.Goals as goal
+
+-- first byte, address, command and count, each stored behind the other, and then the data, copied
+record_made : (first command count : ℕ) (ab ds l : List ℕ) {w r es : List ℕ} (next : ℕ) → w ≡ put (set l 0 first) 1 ab → next ≡ 1 + length ab → r ≡ put_if_fits (set (set w next command) (next + 1) count) (next + 2) es → es ≡ ds
+    → next + 2 + length ds ≤ length l → r ≡ put l 0 (first ∷ (ab ++ (command ∷ count ∷ ds)))
+record_made first command count ab ds l {w} {r} {es} next ew en er ed h =
+    let front = first ∷ (ab ++ (command ∷ count ∷ [])) in
+    let size : length front ≡ next + 2 = omega (arith, length-append ab (command ∷ count ∷ [])) in
+    let stored : set (set w next command) (next + 1) count ≡ put l 0 front = put-head l [] 0 first ab next command count (sym (put-nil l 0)) refl ew en (omega arith) in
+    er
+    ∙ ap₂ (λ (q ds : List ℕ). put_if_fits q (next + 2) ds) stored ed
+    ∙ put_fitting (put l 0 front) (next + 2) ds (omega (arith, length-put l 0 front (omega arith)))
+    ∙ put-put l 0 front ds (next + 2) (omega arith) (omega arith)
+    ∙ ap (put l 0) (append_assoc (first ∷ ab) (command ∷ count ∷ []) ds)
+
+pub returns : goal.returns
+returns c =
+    let a = c.args in
+    let bs = a.bytes.now in
+    let l = a.room.now in
+    let behind = drop head_room bs in
+    let wire = wire_at a.head a.command a.count bs in
+    let all : head_room + a.count - head_room ≡ a.count = omega arith in
+    let counted : length (take a.count behind) ≡ a.count = length-take-le a.count behind (omega (arith, length-drop head_room bs, c.requires.0)) in
+    let o = opening_in a.head in
+    let address : c.from_bytes-address.result ≡ read_address o.is_long (address_of wire) = c.from_bytes-address.ensures ∙ address_taken o.is_long bs ∙ ap (read_address o.is_long) (sym (address_first o bs)) in
+    let long : is_long c.from_bytes-address.result ≡ o.is_long = ap is_long address ∙ long_read o.is_long (address_of wire) in
+    let first = c.frame_first.result in
+    let ab = address_bytes c.from_bytes-address.result in
+    let ds = take a.count behind in
+    let next = 1 + c.address_length.result in
+    let written : next ≡ 1 + length ab = omega (arith, c.address_length.ensures, length-address c.from_bytes-address.result, ap address_length long) in
+    let fits : next + 2 + length ds ≤ length l = omega (arith, counted, c.address_length.ensures, address_length_le a.head.is_long, c.requires.1) in
+    let laid = record_made first a.command a.count ab ds l next c.write_address.ensures written c.copy_into.ensures (ap (λ (k : ℕ). take k behind) all) fits in
+    let same : first ∷ (ab ++ (a.command ∷ a.count ∷ ds)) ≡ frame_record wire = rw (c.frame_first.ensures, c.opening.ensures, address, counted) in
+    (omega (arith, ap length same, length-append ab (a.command ∷ a.count ∷ ds), counted, written), laid ∙ ap (put l 0) same)
