@@ -2,10 +2,10 @@
 // totals: document 01, 'Examples'. What the lines are is proved of the library. Here it is proved that
 // the bytes of each read are handed to it, once and in order, and its lines to the system; what is left
 // to trust are the calls of the system themselves, the read in `read_on` and the write in `print`.
-// Rattle has no exit status: what goes wrong is said on standard error, and then there is no last line.
+// What goes wrong is said on standard error, and then there is no last line.
 #![tactic(auto)]
 
-ghost use Rattle.std.specs.Prelude.{◌≡◌, ◌≤◌, ◌<◌, length, take, eqb, pos, true, false, ◌&&◌};
+ghost use Rattle.std.specs.Prelude.{◌≡◌, ◌≤◌, ◌<◌, ◌^◌, length, take, IfOk, IfErr, eqb, pos, true, false, ◌&&◌};
 ghost use Rattle.std.specs.Int.Signed.{lt_z};
 ghost use Rattle.io.specs.Counts.{clamp_len};
 ghost use Rattle.dump_lines.specs.Text.{line_max};
@@ -13,8 +13,8 @@ ghost use Rattle.dump_lines.specs.Lines.{printed};
 ghost use Rattle.dump.specs.Passing.{PassesOn, TellsEnd, ReadsAll};
 
 use dump_lines::Dump;
-use libc::{STDERR_FILENO, STDIN_FILENO, STDOUT_FILENO};
 use refusal::Written;
+use std::io::{Error, ErrorKind, Read};
 
 // Bytes to a read, and to a write.
 const SIZE: usize = 65536;
@@ -24,7 +24,7 @@ const SIZE: usize = 65536;
 const READS: u64 = 281474976710655;
 
 // How many bytes standard output was asked to take, and how many it took.
-#[derive(Drop)]
+#[derive(Clone, Copy, Drop)]
 struct Sent {
     asked: usize,
     took: usize,
@@ -63,16 +63,36 @@ struct Finished {
     end: Sent,
 }
 
-fn tell_unread() {
-    os::fail(b"dump: cannot read standard input");
+// What the system answered to a read or a write, in one number: how many bytes it moved, and below 0 the number
+// of the error where it failed.
+fn answer(moved: Result<usize, Error>) -> isize
+    requires { IfOk moved (λ n. n < 2 ^ 63) }
+    ensures moves { IfOk moved (λ n. result ≡ pos n) }
+    ensures fails { IfErr moved (λ _. lt_z result (pos 0) ≡ true) }
+{
+    match moved {
+        Ok(n) => n as isize,
+        Err(error) => match error.raw_os_error() {
+            Some(number) if number > 0 => -(number as isize),
+            _ => -1,
+        },
+    }
 }
 
-fn tell_unwritten() {
-    os::fail(b"dump: cannot write to standard output");
+fn error_of(got: isize) -> Error {
+    Error::from_raw_os_error(i32::try_from(got.unsigned_abs()).unwrap_or(0))
 }
 
-fn tell_uncounted() {
-    io::write_all(STDERR_FILENO, b"dump: more reads than can be counted\n");
+fn tell_unread(rt: &impl Eprint, got: isize) {
+    let _ = eprintln!(rt; "dump: cannot read standard input: {}", error_of(got));
+}
+
+fn tell_unwritten(rt: &impl Eprint, got: isize) {
+    let _ = eprintln!(rt; "dump: cannot write to standard output: {}", error_of(got));
+}
+
+fn tell_uncounted(rt: &impl Eprint) {
+    let _ = eprintln!(rt; "dump: more reads than can be counted");
 }
 
 // Whether a call that answered so is to be made again: one that failed, but only because nothing was there
@@ -81,27 +101,24 @@ fn again(got: isize) -> bool
     ensures { result ≡ true → lt_z got (pos 0) ≡ true }
 {
     if got < 0 {
-        let error = os::errno();
-        if (error == libc::EAGAIN) | (error == libc::EINTR) {
-            libc::sched_yield();
-            return true;
-        }
+        let kind = error_of(got).kind();
+        return matches!(kind, ErrorKind::WouldBlock | ErrorKind::Interrupted);
     }
     false
 }
 
 // All of the bytes, in as many calls as it takes; these are counted down as the reads are.
-fn print(bytes: &[u8]) -> Sent
+fn print(rt: &(impl Print + Eprint), bytes: &[u8]) -> Sent
     ensures { (result.asked ≡ length bytes.now) × (result.took ≤ result.asked) }
 {
     let mut took: usize = 0;
     let mut calls = u64::MAX;
     while (took < bytes.len()) & (calls > 0) {
-        let got = libc::write(STDOUT_FILENO, &bytes[took..]);
+        let got = answer(rt.write_some(&bytes[took..]));
         let more = io::count(got, bytes);
         if more == 0 {
             if !again(got) {
-                tell_unwritten();
+                tell_unwritten(rt, got);
                 return Sent {
                     asked: bytes.len(),
                     took,
@@ -118,7 +135,7 @@ fn print(bytes: &[u8]) -> Sent
 }
 
 // The lines of as many bytes as the buffer has room for.
-fn print_some(dump: Dump, src: &[u8], out: &mut [u8]) -> Passed
+fn print_some(rt: &(impl Print + Eprint), dump: Dump, src: &[u8], out: &mut [u8]) -> Passed
     requires { line_max ≤ length out.old }
     ensures passes_on { PassesOn dump src.now result }
     ensures used_nonzero { 0 < length src.now → 0 < result.used }
@@ -127,7 +144,7 @@ fn print_some(dump: Dump, src: &[u8], out: &mut [u8]) -> Passed
 {
     let taken = dump.take(src, out);
     let n = taken.written;
-    let sent = print(&out[..n]);
+    let sent = print(rt, &out[..n]);
     let dump = taken.dump;
     Passed {
         dump,
@@ -137,7 +154,7 @@ fn print_some(dump: Dump, src: &[u8], out: &mut [u8]) -> Passed
 }
 
 // The lines of all bytes of a read, unless the system does not take them.
-fn print_lines(dump: Dump, src: &[u8], out: &mut [u8]) -> Passed
+fn print_lines(rt: &(impl Print + Eprint), dump: Dump, src: &[u8], out: &mut [u8]) -> Passed
     requires line_max_in_bounds { line_max ≤ length out.old }
     requires out_len_bound { (length out.old ≤ 65536) × (length src.now ≤ 65536) }
     ensures passes_on { PassesOn dump src.now result }
@@ -148,7 +165,7 @@ fn print_lines(dump: Dump, src: &[u8], out: &mut [u8]) -> Passed
     let mut asked: usize = 0;
     let mut took: usize = 0;
     while (used < src.len()) & (took == asked) {
-        let passed = print_some(dump, &src[used..], out);
+        let passed = print_some(rt, dump, &src[used..], out);
         dump = passed.dump;
         used += passed.used;
         let sent = passed.sent;
@@ -162,45 +179,56 @@ fn print_lines(dump: Dump, src: &[u8], out: &mut [u8]) -> Passed
     }
 }
 
-fn print_end(dump: Dump, out: &mut [u8]) -> Sent
+fn print_end(rt: &(impl Print + Eprint), dump: Dump, out: &mut [u8]) -> Sent
     requires { line_max ≤ length out.old }
     ensures { TellsEnd dump out.new result }
 {
     match dump.end(out) {
-        Written::Count(n) => print(&out[..n]),
+        Written::Count(n) => print(rt, &out[..n]),
         Written::Refused(_) => Sent { asked: 0, took: 0 },
     }
 }
 
 // The bytes of the next read, and their lines.
-fn read_on(dump: Dump, input: &mut [u8], out: &mut [u8]) -> Went
+fn read_on(
+    rt: &(impl Print + Eprint),
+    from: &mut impl Read,
+    dump: Dump,
+    input: &mut [u8],
+    out: &mut [u8],
+) -> Went
     requires line_max_in_bounds { line_max ≤ length out.old }
     requires out_len_bound { (length out.old ≤ 65536) × (length input.old ≤ 65536) }
     ensures n_value { result.n ≡ clamp_len result.got (length input.new) }
     ensures passes_on { PassesOn dump (take result.n input.new) result.passed }
     ensures used_value { result.passed.sent.took ≡ result.passed.sent.asked → result.passed.used ≡ length (take result.n input.new) }
 {
-    let got = libc::read(STDIN_FILENO, input);
+    let got = answer(from.read(input));
     let n = io::count(got, input);
-    let passed = print_lines(dump, &input[..n], out);
+    let passed = print_lines(rt, dump, &input[..n], out);
     Went { got, n, passed }
 }
 
-// Whether there is to be another read. No system call stands between the read and this.
-fn goes_on(got: isize, sent: Sent) -> bool
+// Whether there is to be another read.
+fn goes_on(rt: &impl Eprint, got: isize, sent: Sent) -> bool
     ensures { lt_z got (pos 0) ≡ false → result ≡ lt_z (pos 0) got && eqb sent.took sent.asked }
 {
     if got < 0 {
         if again(got) {
             return true;
         }
-        tell_unread();
+        tell_unread(rt, got);
         return false;
     }
     (got > 0) & (sent.took == sent.asked)
 }
 
-fn read_all(input: &mut [u8], out: &mut [u8]) -> Ran
+fn read_all(
+    rt: &(impl Print + Eprint),
+    from: &mut impl Read,
+    input: &mut [u8],
+    out: &mut [u8],
+) -> Ran
     requires line_max_in_bounds { line_max ≤ length out.old }
     requires out_len_bound { (length out.old ≤ 65536) × (length input.old ≤ 65536) }
     ensures { ReadsAll result }
@@ -209,14 +237,14 @@ fn read_all(input: &mut [u8], out: &mut [u8]) -> Ran
     let mut heard: u64 = 0;
     let mut reads = READS;
     while reads > 0 {
-        let went = read_on(dump, input, out);
+        let went = read_on(rt, from, dump, input, out);
         let got = went.got;
         let passed = went.passed;
         let sent = passed.sent;
         dump = passed.dump;
         heard += passed.used as u64;
         reads -= 1;
-        if !goes_on(got, sent) {
+        if !goes_on(rt, got, sent) {
             return Ran {
                 heard,
                 dump,
@@ -225,7 +253,7 @@ fn read_all(input: &mut [u8], out: &mut [u8]) -> Ran
             };
         }
     }
-    tell_uncounted();
+    tell_uncounted(rt);
     Ran {
         heard,
         dump,
@@ -235,27 +263,32 @@ fn read_all(input: &mut [u8], out: &mut [u8]) -> Ran
 }
 
 // The last line of the dump behind all bytes that were read.
-fn print_totals(ran: Ran, out: &mut [u8]) -> Finished
+fn print_totals(rt: &(impl Print + Eprint), ran: Ran, out: &mut [u8]) -> Finished
     requires { line_max ≤ length out.old }
     ensures ran_value { result.ran ≡ ran }
     ensures tells_end { TellsEnd ran.dump out.new result.end }
 {
-    let end = print_end(ran.dump, out);
+    let end = print_end(rt, ran.dump, out);
     Finished { ran, end }
 }
 
 // The last line stands for an input that was read to its end.
-fn run(input: &mut [u8], out: &mut [u8]) -> Finished
+fn run(
+    rt: &(impl Print + Eprint),
+    from: &mut impl Read,
+    input: &mut [u8],
+    out: &mut [u8],
+) -> Finished
     requires line_max_in_bounds { line_max ≤ length out.old }
     requires out_len_bound { (length out.old ≤ 65536) × (length input.old ≤ 65536) }
     ensures reads_all { ReadsAll result.ran }
     ensures tells_end { result.ran.got ≡ pos 0 → TellsEnd result.ran.dump out.new result.end }
     ensures asked_value { (result.ran.got ≡ pos 0 → ⊥) → result.end.asked ≡ 0 }
 {
-    let ran = read_all(input, out);
+    let ran = read_all(rt, from, input, out);
     let got = ran.got;
     if got == 0 {
-        return print_totals(ran, out);
+        return print_totals(rt, ran, out);
     }
     Finished {
         ran,
@@ -263,8 +296,8 @@ fn run(input: &mut [u8], out: &mut [u8]) -> Finished
     }
 }
 
-fn main() {
+fn main(rt: HostRuntime) {
     let mut input = [0u8; SIZE];
     let mut out = [0u8; SIZE];
-    run(&mut input, &mut out);
+    run(&rt, &mut rt.stdin(), &mut input, &mut out);
 }

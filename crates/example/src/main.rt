@@ -3,31 +3,33 @@
 // standard input, of which crates/example/stdin has a recording.
 #![tactic(auto)]
 
+ghost use Rattle.std.specs.Prelude.{◌≤◌, length};
+
 mod words;
 
 use commands::read_device_vars::{DeviceVariable, MAX_DEVICE_VARS, ReadDeviceVarsResponse};
 use commands::{Mode, Reading, read_device_vars, read_unique_id_by_tag};
 use framing::{Answer, Decoder, Frame, Heard, PayloadVerdict, encode_frame};
-use libc::STDIN_FILENO;
 use refusal::Written;
+use std::io::Read;
 use types::consts::MIN_PREAMBLE_COUNT;
 use types::consts::commands::READ_DEVICE_VARS_WITH_STATUS;
 use types::{Address, FrameType, MasterRole};
 use words::{first, print, print_bytes, print_number, print_refusal};
 
 // A call that writes gets a buffer and tells how many bytes it wrote to its front, or why it wrote none.
-fn tell_written(written: Written, buffer: &[u8]) {
+fn tell_written(rt: &impl Print, written: Written, buffer: &[u8]) {
     match written {
         Written::Count(n) => {
-            print_bytes(first(buffer, n));
-            print(b"\n");
+            print_bytes(rt, first(buffer, n));
+            print(rt, b"\n");
         }
-        Written::Refused(refusal) => print_refusal(refusal),
+        Written::Refused(refusal) => print_refusal(rt, refusal),
     }
 }
 
 // The request for variables 0 and 1 of one device: first the command's data, then the frame around them.
-fn ask() {
+fn ask(rt: &impl Print) {
     let address = Address::Long {
         master: MasterRole::Primary,
         burst: false,
@@ -46,29 +48,29 @@ fn ask() {
         MIN_PREAMBLE_COUNT,
         &mut buffer,
     );
-    print(b"request:");
-    tell_written(written, &buffer);
+    print(rt, b"request:");
+    tell_written(rt, written, &buffer);
 }
 
 // What a value is worth. Good, poor and fixed carry the value, a float, for whoever calculates with it.
-fn tell_reading(reading: Reading) {
+fn tell_reading(rt: &impl Print, reading: Reading) {
     match reading {
-        Reading::Good(_) => print(b": good\n"),
-        Reading::Poor(_) => print(b": poor\n"),
-        Reading::Fixed(_) => print(b": fixed\n"),
-        Reading::Bad => print(b": bad\n"),
-        Reading::Absent => print(b": absent\n"),
+        Reading::Good(_) => print(rt, b": good\n"),
+        Reading::Poor(_) => print(rt, b": poor\n"),
+        Reading::Fixed(_) => print(rt, b": fixed\n"),
+        Reading::Bad => print(rt, b": bad\n"),
+        Reading::Absent => print(rt, b": absent\n"),
     }
 }
 
-fn tell_variable(variable: DeviceVariable) {
-    print(b"  variable ");
-    print_number(variable.device_var_code as usize);
-    tell_reading(variable.reading());
+fn tell_variable(rt: &impl Print, variable: DeviceVariable) {
+    print(rt, b"  variable ");
+    print_number(rt, variable.device_var_code as usize);
+    tell_reading(rt, variable.reading());
 }
 
 // A response has room for eight variables, of which the first `count` were sent.
-fn tell_variables(response: ReadDeviceVarsResponse) {
+fn tell_variables(rt: &impl Print, response: ReadDeviceVarsResponse) {
     let variables = response.variables;
     let count = response.count as usize;
     let mut i: usize = 0;
@@ -76,75 +78,89 @@ fn tell_variables(response: ReadDeviceVarsResponse) {
         if i >= count {
             return;
         }
-        tell_variable(variables[i]);
+        tell_variable(rt, variables[i]);
         i += 1;
     }
 }
 
 // The response that a frame carries in the mode of the HART documents. Whatever stands in its way, from the
 // frame's type to the device's own error codes, comes back as a refusal.
-fn tell_response(frame: Frame) {
+fn tell_response(rt: &impl Print, frame: Frame) {
     let response = read_device_vars::read_response(Mode::Standard, frame);
     let verdict = response.verdict;
     match verdict {
-        PayloadVerdict::Carried => tell_variables(response),
+        PayloadVerdict::Carried => tell_variables(rt, response),
         PayloadVerdict::Refused(refusal) => {
-            print(b"  no readings:");
-            print_refusal(refusal);
+            print(rt, b"  no readings:");
+            print_refusal(rt, refusal);
         }
     }
 }
 
-fn tell_frame(frame: Frame) {
-    print(b"frame: command ");
-    print_number(frame.command as usize);
-    print(b", bytes of data: ");
-    print_number(frame.length as usize);
-    print(b"\n");
-    tell_response(frame);
+fn tell_frame(rt: &impl Print, frame: Frame) {
+    print(rt, b"frame: command ");
+    print_number(rt, frame.command as usize);
+    print(rt, b", bytes of data: ");
+    print_number(rt, frame.length as usize);
+    print(rt, b"\n");
+    tell_response(rt, frame);
 }
 
 // At most bytes nothing is heard. Behind a frame or a refusal the decoder looks for the next frame.
-fn tell_heard(heard: Heard) {
+fn tell_heard(rt: &impl Print, heard: Heard) {
     let answer = heard.answer;
     match answer {
         Answer::Silence => {}
         Answer::Found => {
             let frame = heard.frame;
-            tell_frame(frame);
+            tell_frame(rt, frame);
         }
         Answer::Refused(refusal) => {
-            print(b"line:");
-            print_refusal(refusal);
+            print(rt, b"line:");
+            print_refusal(rt, refusal);
         }
     }
 }
 
 // A decoder is a value: a byte takes one, and gives the one for the next byte.
-fn listen(line: &[u8]) {
+fn listen(rt: &impl Print, line: &[u8]) {
     let mut decoder = Decoder::new();
     let mut i = 0;
     while i < line.len() {
         let fed = decoder.feed(line[i]);
-        tell_heard(fed.heard);
+        tell_heard(rt, fed.heard);
         decoder = fed.next;
         i += 1;
     }
 }
 
 // The request of command 11. In the mode of the HART documents a small letter has no code.
-fn ask_by_tag(tag: [u8; 8]) {
+fn ask_by_tag(rt: &impl Print, tag: [u8; 8]) {
     let mut buffer = [0u8; 6];
     let written = read_unique_id_by_tag::encode_data(Mode::Standard, tag, &mut buffer);
-    print(b"tag:");
-    tell_written(written, &buffer);
+    print(rt, b"tag:");
+    tell_written(rt, written, &buffer);
 }
 
-fn main() {
-    ask();
-    let mut line = io::buffer();
-    let n = io::read_full(STDIN_FILENO, &mut line);
-    listen(&line[..n]);
-    ask_by_tag(*b"TANK 7  ");
-    ask_by_tag(*b"TANk 7  ");
+// Reads until there is no room left, or no more to read.
+fn read(from: &mut impl Read, line: &mut [u8]) -> usize
+    ensures { result ≤ length line.new }
+{
+    let mut got = 0;
+    while got < line.len() {
+        match from.read(&mut line[got..]) {
+            Ok(n) if n > 0 => got += n,
+            _ => return got,
+        }
+    }
+    got
+}
+
+fn main(rt: HostRuntime) {
+    ask(&rt);
+    let mut line = [0u8; 4096];
+    let n = read(&mut rt.stdin(), &mut line);
+    listen(&rt, &line[..n]);
+    ask_by_tag(&rt, *b"TANK 7  ");
+    ask_by_tag(&rt, *b"TANk 7  ");
 }

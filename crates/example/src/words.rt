@@ -1,7 +1,6 @@
 // What the example prints, on standard output, and the front of a slice.
 ghost use Rattle.std.specs.Prelude.{◌≤◌};
 
-use libc::STDOUT_FILENO;
 use refusal::Refusal;
 
 fn least(a: usize, b: usize) -> usize
@@ -17,36 +16,35 @@ pub(crate) fn first(bytes: &[u8], n: usize) -> &[u8] {
     &bytes[0..end]
 }
 
-pub(crate) fn print(text: &[u8]) {
-    io::write_all(STDOUT_FILENO, text);
+pub(crate) fn print(rt: &impl Print, text: &[u8]) {
+    let _ = rt.write_all(text);
 }
 
-pub(crate) fn print_number(number: usize) {
-    io::print_decimal(STDOUT_FILENO, number as u64);
+pub(crate) fn print_number(rt: &impl Print, number: usize) {
+    let _ = print!(rt; "{number}");
 }
 
-fn print_byte(byte: u8) {
-    print(b" ");
-    io::print_hex(STDOUT_FILENO, byte as u64, 2);
+fn print_byte(rt: &impl Print, byte: u8) {
+    let _ = print!(rt; " {byte:02x}");
 }
 
 // Rattle proves a function by itself, unless it has a loop: the three loops of this example have files in
 // proofs/, which say why each of them ends.
-pub(crate) fn print_bytes(bytes: &[u8]) {
+pub(crate) fn print_bytes(rt: &impl Print, bytes: &[u8]) {
     let mut i = 0;
     while i < bytes.len() {
-        print_byte(bytes[i]);
+        print_byte(rt, bytes[i]);
         i += 1;
     }
 }
 
 // A refusal has a number, and some carry more: here the place of a character that has no code.
-pub(crate) fn print_refusal(refusal: Refusal) {
-    print(b" refused with ");
-    print_number(refusal.number() as usize);
+pub(crate) fn print_refusal(rt: &impl Print, refusal: Refusal) {
+    print(rt, b" refused with ");
+    print_number(rt, refusal.number() as usize);
     if let Refusal::BadCharacter(place) = refusal {
-        print(b" at place ");
-        print_number(place);
+        print(rt, b" at place ");
+        print_number(rt, place);
     }
-    print(b"\n");
+    print(rt, b"\n");
 }
