@@ -7,7 +7,6 @@ use lib.ListN.{length, take, drop, length-drop, length-append, take-append-drop}
 use lib.Seq.{take_all, take-add, take-append_seam, length-take-le}
 use borrow.Author.Tests.{le-ltb}
 use Rattle.octets.specs.Put.{put}
-use Rattle.octets.proofs.Put.{part_put}
 use Rattle.refusal.specs.Outcome.{done, refused, ends, wrote}
 use Rattle.dump_lines.specs.Text.{line_max}
 use Rattle.dump_lines.specs.Writing.{end_written}
@@ -34,10 +33,10 @@ module _ (d : Dump) (src out : List ℕ) {t : Taken} {last : List ℕ} (e : t �
   size = ap (λ (x : Taken). x.written) e ∙ ap length text
 
   -- what was written lies within the buffer
-  pub there : t.written ≤ length last
+  there : t.written ≤ length last
   there = omega (arith, written_within d src out e f same)
 
-  pub handed : length (take t.written last) ≡ t.written
+  handed : length (take t.written last) ≡ t.written
   handed = length-take-le t.written last there
 
   pub some_passes : {s : Sent} → s.asked ≡ length (take t.written last) → s.took ≤ s.asked → PassesOn d src (record { dump = t.dump; used = t.used; sent = s })
@@ -48,9 +47,6 @@ module _ (d : Dump) (src out : List ℕ) {t : Taken} {last : List ℕ} (e : t �
         lines = a ∙ handed ∙ size;
         answered = b;
       }
-
-  pub front : {n : ℕ} → n ≡ length (take t.written last) → take n last ≡ lines
-  front a = ap₂ (λ (i : ℕ) (l : List ℕ). take i l) (a ∙ handed ∙ size) (f ∙ ap (put out 0) text) ∙ part_put out 0 lines (length lines) (omega (arith, size, written_within d src out e f same)) refl
 
 -- nothing yet
 pub passes_none : (d : Dump) (src : List ℕ) → PassesOn d src (passed d 0 0 0)
