@@ -1,5 +1,5 @@
--- The block and the record keep their lengths.
-use Rattle.std.proofs.Common.{◌≡◌, ◌-◌, length}
+-- The loop only counts up.
+use Rattle.std.proofs.Common.{◌-◌, length}
 use Rattle.replay.proofs.decoders.listen_block.Given as goal
 
 abbrev pub decreases-loop-i : goal.decreases-loop-i
