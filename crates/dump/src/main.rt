@@ -15,6 +15,7 @@ ghost use Rattle.dump.specs.Passing.{PassesOn, TellsEnd, ReadsAll};
 use dump_lines::Dump;
 use refusal::Written;
 use std::io::{Error, ErrorKind, Read};
+use std::thread;
 
 // Bytes to a read, and to a write.
 const SIZE: usize = 65536;
@@ -102,7 +103,10 @@ fn again(got: isize) -> bool
 {
     if got < 0 {
         let kind = error_of(got).kind();
-        return matches!(kind, ErrorKind::WouldBlock | ErrorKind::Interrupted);
+        if matches!(kind, ErrorKind::WouldBlock | ErrorKind::Interrupted) {
+            thread::yield_now();
+            return true;
+        }
     }
     false
 }

@@ -28,7 +28,7 @@ fn print_byte(rt: &impl Print, byte: u8) {
     let _ = print!(rt; " {byte:02x}");
 }
 
-// Rattle proves a function by itself, unless it has a loop: the three loops of this example have files in
+// Rattle proves a function by itself, unless it has a loop: the loops of this example have files in
 // proofs/, which say why each of them ends.
 pub(crate) fn print_bytes(rt: &impl Print, bytes: &[u8]) {
     let mut i = 0;
