@@ -8,12 +8,12 @@ use Rattle.commands.proofs.reading.Reading.of.Goals as goal
 pub returns-then-quality-eq0 : goal.returns-then-quality-eq0
 returns-then-quality-eq0 c = sym (worth_bad _ _ c.if-quality-eq0.true)
 
--- the exponent is told by arithmetic and not by the text of the code's test, so that another test fails where it tells something false
+-- both tests are told by arithmetic and not by their text, so that another test fails where it tells something false
 pub returns-then-bits-eq255 : goal.returns-then-bits-eq255
 returns-then-bits-eq255 c =
     let a = c.args in
     let ones : exponent a.bits ≡ 255 = omega (arith, c.if-bits-eq255.true) in
-    sym (worth_absent a.status a.bits c.if-quality-eq0.false ones)
+    sym (worth_absent a.status a.bits (λ e. omega (arith, e)) ones)
 
 pub returns-in-3 : goal.returns-in-3
 returns-in-3 c =
