@@ -1,24 +1,17 @@
 #include "ways.h"
 #include "hart.h"
 #include "streams.h"
-#include <errno.h>
 #include <stddef.h>
 #include <stdio.h>
 #include <stdlib.h>
 #include <string.h>
 
-/* A slice as the compiler lends it. */
-struct slice {
-    const void *start;
-    size_t length;
-};
-
-/* Ours: crates/bench_loops and the program dump, exported by bench/run. */
-uint64_t bench_by_step(const struct slice *run);
-uint64_t bench_lent(const struct slice *run, size_t n);
-uint64_t bench_by_value(const struct slice *run);
-uint64_t bench_written(_Bool is_long, const struct slice *data, uint8_t preambles, uint32_t count,
-                       const struct slice *room);
+/* Ours: crates/bench_loops and the program dump, exported by bench/run. A slice is its start and its length. */
+uint64_t bench_by_step(const uint8_t *run, size_t length);
+uint64_t bench_lent(const uint8_t *run, size_t length, size_t n);
+uint64_t bench_by_value(const uint8_t *run, size_t length);
+uint64_t bench_written(_Bool is_long, const uint8_t *data, size_t length, uint8_t preambles, uint32_t count,
+                       uint8_t *room, size_t size);
 int bench_dump(void);
 
 /* The Rust's: bench/rust, built twice by bench/run. */
@@ -31,13 +24,6 @@ uint64_t lto_feed(const uint8_t *run, size_t n);
 uint64_t lto_write(_Bool is_long, const uint8_t *data, size_t n, uint8_t preambles, uint32_t count,
                    uint8_t *room, size_t size);
 int lto_dump(void);
-
-/* Of the toolchain's C code the one call that the dump makes. */
-int rattle_errno(void);
-int rattle_errno(void)
-{
-    return errno;
-}
 
 void die(const char *what, const char *name)
 {
@@ -61,8 +47,6 @@ unsigned refusals_of(uint64_t sum)
 
 /* Feeding. */
 
-static const struct slice run = {stream, STREAM_SIZE};
-
 static uint64_t feed_rust(void)
 {
     return rust_feed(stream, STREAM_SIZE);
@@ -75,18 +59,18 @@ static uint64_t feed_lto(void)
 
 static uint64_t feed_step(void)
 {
-    return bench_by_step(&run);
+    return bench_by_step(stream, STREAM_SIZE);
 }
 
 /* More is asked for than is heard, so that the whole run is listened to. */
 static uint64_t feed_lent(void)
 {
-    return bench_lent(&run, STREAM_SIZE);
+    return bench_lent(stream, STREAM_SIZE, STREAM_SIZE);
 }
 
 static uint64_t feed_value(void)
 {
-    return bench_by_value(&run);
+    return bench_by_value(stream, STREAM_SIZE);
 }
 
 static uint64_t weight_of(const uint8_t *record)
@@ -132,9 +116,9 @@ void compare_feeds(const char *stream_name)
         die("the decoder by value hears something else than the Rust", stream_name);
     if (feed_c() != sum)
         die("the C call hears something else than the Rust", stream_name);
-    if (bench_lent(&run, heard) != 0)
+    if (bench_lent(stream, STREAM_SIZE, heard) != 0)
         die("the lent decoder hears more than the Rust", stream_name);
-    if (heard > 0 && bench_lent(&run, heard - 1) != rust_last(stream, STREAM_SIZE))
+    if (heard > 0 && bench_lent(stream, STREAM_SIZE, heard - 1) != rust_last(stream, STREAM_SIZE))
         die("the lent decoder hears something else than the Rust", stream_name);
 }
 
@@ -160,8 +144,7 @@ static uint64_t write_lto(const struct frame *frame)
 
 static uint64_t write_ours(const struct frame *frame)
 {
-    struct slice lent_data = {data, frame->length}, room = {our_room, sizeof our_room};
-    return bench_written(frame->is_long, &lent_data, 5, WRITTEN, &room);
+    return bench_written(frame->is_long, data, frame->length, 5, WRITTEN, our_room, sizeof our_room);
 }
 
 const struct write writes[WRITES] = {
