@@ -2,7 +2,7 @@
 # files that have code of which nothing was run. What `derive` writes is passed over.
 BEGIN {
     taken = "(consts|types|packed_string|encode|decode|commands/(mod|read_unique_id_by_tag|" \
-        "write_tag_descriptor_date|read_device_vars))"
+        "write_tag_descriptor_date|read_device_vars|read_device_id|read_tag_descriptor_date))"
 }
 FNR == NR {
     if ($1 ~ /^0x/)

@@ -1,4 +1,4 @@
--- Each promise of this crate, beside those of the three commands, leaves one outcome: one answer, and one content of each lent buffer.
+-- Each promise of this crate, beside those of the commands, leaves one outcome: one answer, and one content of each lent buffer.
 use mathlib.Core.Path.{◌≡◌, refl, sym, ap, ap₂, ◌∙◌}
 use Rattle.refusal.specs.Determined.{Determined}
 use Rattle.refusal.proofs.Known.{refusal_known, agree_alone}
@@ -15,6 +15,8 @@ use Rattle.commands.specs.declared.tag_descriptor_date.TagDescriptorDate.{TagDes
 use Rattle.commands.specs.TagDescriptorDate.{Fields, reads_fields, fields_of}
 use Rattle.commands.proofs.identity.DeviceIdentity.decode.Kinds as device-identity-decode-kinds
 use Rattle.commands.proofs.identity.DeviceIdentity.decode.Reads as device-identity-decode-reads
+use Rattle.commands.proofs.identity.DeviceIdentity.encode.Kinds as device-identity-encode-kinds
+use Rattle.commands.proofs.identity.DeviceIdentity.encode.Reads as device-identity-encode-reads
 use Rattle.commands.proofs.reading.value_of.Kinds as value-of-kinds
 use Rattle.commands.proofs.reading.value_of.Reads as value-of-reads
 use Rattle.commands.proofs.reading.Reading.of.Kinds as reading-of-kinds
@@ -29,6 +31,9 @@ identity_known (Refused r) (Refused s) e = ap Refused (refusal_known r s (cc) (c
 
 pub device_identity_decode : Determined 1 device-identity-decode-kinds.ps device-identity-decode-kinds.r device-identity-decode-reads.Post (λ κs x. tt {0})
 device_identity_decode κs a r s x y = λ p q. (identity_known r s (p ∙ sym q), refl)
+
+pub device_identity_encode : Determined 0 device-identity-encode-kinds.ps device-identity-encode-kinds.r device-identity-encode-reads.Post (λ κs x. tt {0})
+device_identity_encode κs a r s x y = agree_alone
 
 abbrev reading_of : Worth → Reading
 reading_of (good value) = Good value

@@ -16,7 +16,8 @@ use Rattle.octets.specs.Put.{put}
 use Rattle.octets.specs.Source.{comes, Run, as_u8, shift_right, shift_left}
 use Rattle.octets.proofs.Bases.{below_at}
 use Rattle.octets.proofs.Put.{stores_put}
-use Rattle.commands.specs.Identity.{identity_size, identified, identity}
+use Rattle.commands.specs.Identity.{identified, identity}
+use Rattle.response.specs.Sizes.{identity_size}
 use Rattle.commands.specs.IdentitySource.{source_decoded_u24, source_encoded_u24, source_identity}
 use Rattle.commands.proofs.Identities.{identity_short, identity_with, identity_made}
 

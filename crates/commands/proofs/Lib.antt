@@ -1,10 +1,10 @@
-pub mod Places
 pub mod Identities
 pub mod IdentitySource
 pub mod Worths
-pub mod Texts
+pub mod Responding
 pub mod Untouched
-pub mod TextRoundTrip
-pub mod TextSource
+pub mod Leaves
+pub mod ReadBack
+pub mod Bench
 pub mod Responses
 pub mod Determined

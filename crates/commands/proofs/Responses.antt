@@ -1,4 +1,5 @@
--- From the bytes of a line to the fields of commands 9, 11 and 18: a frame stands behind whole pieces, and is heard and read.
+-- From the bytes of a line to the fields of each command: a frame stands behind whole pieces, and is heard and read, by the host or by a
+-- device.
 use Prim.Native.Nat.{ℕ}
 use mathlib.Core.Path.{◌≡◌, ◌∙◌}
 use mathlib.Core.List.{List, ◌++◌}
@@ -6,15 +7,29 @@ use lib.ListN.{drop}
 use Rattle.packed_string.specs.declared.text_group.Mode.{Mode}
 use Rattle.line.specs.Layout.{Wire}
 use Rattle.line.specs.Pieces.{Piece, frame, Holds, bytes_of, Bytes, joined, AllHold}
+use Rattle.types.specs.declared.delimiter.FrameType.{FrameType}
+use Rattle.framing.specs.declared.payload.PayloadVerdict.{PayloadVerdict}
+use Rattle.framing.specs.Payload.{judgement_of}
+use Rattle.framing.specs.Requests.{asked, asked_in, no_data}
 use Rattle.framing.specs.Responses.{heard_at_check, Responds}
-use Rattle.commands.specs.Identity.{identity, identified_of}
-use Rattle.commands.specs.Tag.{command11}
-use Rattle.commands.specs.Variables.{variables_read, variables_of, command9}
-use Rattle.commands.specs.TagDescriptorDate.{fields_read, fields_of, command18}
+use Rattle.commands.specs.Identity.{identity, identified_of, command0}
+use Rattle.commands.specs.Tag.{command11, tagged_of, request11}
+use Rattle.commands.specs.Variables.{variables_read, variables_of, command9, codes_of, request9}
+use Rattle.commands.specs.TagDescriptorDate.{fields_read, fields_of, command13, command18}
 use Rattle.commands.specs.declared.identity.IdentityRead.{IdentityRead}
 use Rattle.commands.specs.declared.read_device_vars.ReadDeviceVarsResponse.{ReadDeviceVarsResponse}
 use Rattle.commands.specs.declared.tag_descriptor_date.TagDescriptorDate.{TagDescriptorDate}
+use Rattle.commands.specs.declared.read_device_vars.ReadDeviceVarsRequest.{ReadDeviceVarsRequest}
+use Rattle.commands.specs.declared.read_unique_id_by_tag.ReadUniqueIdByTagRequest.{ReadUniqueIdByTagRequest}
+use Rattle.framing.proofs.Requests.{asked_alone}
 use Rattle.framing.proofs.Responses.{heard_read}
+use Rattle.commands.proofs.read_device_id.read_response.Reads as device-id-contract
+use Rattle.commands.proofs.read_tag_descriptor_date.read_response.Reads as texts-contract
+use Rattle.commands.proofs.read_device_id.read_request.Reads as device-id-request
+use Rattle.commands.proofs.read_tag_descriptor_date.read_request.Reads as texts-request
+use Rattle.commands.proofs.read_device_vars.read_request.Reads as variables-request
+use Rattle.commands.proofs.read_unique_id_by_tag.read_request.Reads as identity-request
+use Rattle.commands.proofs.write_tag_descriptor_date.read_request.Reads as fields-request
 use Rattle.commands.proofs.read_device_vars.read_response.Reads as variables-contract
 use Rattle.commands.proofs.read_unique_id_by_tag.read_response.Reads as identity-contract
 use Rattle.commands.proofs.write_tag_descriptor_date.read_response.Reads as fields-contract
@@ -27,5 +42,30 @@ module _ (ps : List Piece) (n : ℕ) (w : Wire) (hold : AllHold ps) (holds : Hol
   pub identity_answered : (r : IdentityRead) → Responds command11.number w → identity-contract.Post tt ((heard_at_check ps n w).frame, tt) r ((heard_at_check ps n w).frame, tt) → identified_of r ≡ identity (drop 2 w.payload)
   identity_answered r k promised = promised ∙ (heard_read ps n w hold holds bytes command11).response k
 
+  pub device_id_answered : (r : IdentityRead) → Responds command0.number w → device-id-contract.Post tt ((heard_at_check ps n w).frame, tt) r ((heard_at_check ps n w).frame, tt) → identified_of r ≡ identity (drop 2 w.payload)
+  device_id_answered r k promised = promised ∙ (heard_read ps n w hold holds bytes command0).response k
+
+  pub texts_answered : (mode : Mode) (r : TagDescriptorDate) → Responds (command13 mode).number w → texts-contract.Post tt (mode, ((heard_at_check ps n w).frame, tt)) r (mode, ((heard_at_check ps n w).frame, tt)) → fields_of r ≡ fields_read mode (drop 2 w.payload)
+  texts_answered mode r k promised = promised ∙ (heard_read ps n w hold holds bytes (command13 mode)).response k
+
   pub fields_answered : (mode : Mode) (r : TagDescriptorDate) → Responds (command18 mode).number w → fields-contract.Post tt (mode, ((heard_at_check ps n w).frame, tt)) r (mode, ((heard_at_check ps n w).frame, tt)) → fields_of r ≡ fields_read mode (drop 2 w.payload)
   fields_answered mode r k promised = promised ∙ (heard_read ps n w hold holds bytes (command18 mode)).response k
+
+  -- whatever `read_request` may answer by its contract: of a request, what it carries, and 6 of anything else
+  abbrev t : FrameType
+  t = w.opening.frame_type
+
+  pub device_id_asked : (r : PayloadVerdict) → device-id-request.Post tt ((heard_at_check ps n w).frame, tt) r ((heard_at_check ps n w).frame, tt) → judgement_of r ≡ asked 0 t w.command
+  device_id_asked r promised = promised ∙ (heard_read ps n w hold holds bytes (no_data 0)).asking ∙ asked_alone 0 t w.command w.payload
+
+  pub texts_asked : (r : PayloadVerdict) → texts-request.Post tt ((heard_at_check ps n w).frame, tt) r ((heard_at_check ps n w).frame, tt) → judgement_of r ≡ asked 13 t w.command
+  texts_asked r promised = promised ∙ (heard_read ps n w hold holds bytes (no_data 13)).asking ∙ asked_alone 13 t w.command w.payload
+
+  pub variables_asked : (r : ReadDeviceVarsRequest) → variables-request.Post tt ((heard_at_check ps n w).frame, tt) r ((heard_at_check ps n w).frame, tt) → codes_of r ≡ asked_in request9 t w.command w.payload
+  variables_asked r promised = promised ∙ (heard_read ps n w hold holds bytes request9).asking
+
+  pub identity_asked : (mode : Mode) (r : ReadUniqueIdByTagRequest) → identity-request.Post tt (mode, ((heard_at_check ps n w).frame, tt)) r (mode, ((heard_at_check ps n w).frame, tt)) → tagged_of r ≡ asked_in (request11 mode) t w.command w.payload
+  identity_asked mode r promised = promised ∙ (heard_read ps n w hold holds bytes (request11 mode)).asking
+
+  pub fields_asked : (mode : Mode) (r : TagDescriptorDate) → fields-request.Post tt (mode, ((heard_at_check ps n w).frame, tt)) r (mode, ((heard_at_check ps n w).frame, tt)) → fields_of r ≡ asked_in (command18 mode) t w.command w.payload
+  fields_asked mode r promised = promised ∙ (heard_read ps n w hold holds bytes (command18 mode)).asking

@@ -1,17 +1,12 @@
--- Document 01, 'Commands': command 18, whose request and response have one layout: a tag, a descriptor, day, month and year.
+-- Document 01, 'Commands': command 18, whose request and response have one layout: a tag, a descriptor, day, month and year; and
+-- document 02, 1/12: command 13, whose response has it too.
 use Rattle.std.specs.Prelude.{ℕ, ◌+◌, cond, List, [], ◌∷◌, ◌++◌, length, get_or, take, drop, replicate, ltb}
 use Rattle.refusal.specs.Outcome.{Outcome}
 use Rattle.packed_string.specs.declared.text_group.Mode.{Mode}
 use Rattle.framing.specs.Payload.{Judgement, carries, withheld, judgement_of, Reader}
-use Rattle.commands.specs.Modes.{packed_text, unpacked_text, packed_size, tag_length, tag_size, fields_written}
+use Rattle.packed_string.specs.Modes.{packed_text, unpacked_text, fields_written}
+use Rattle.response.specs.Sizes.{tag_length, tag_size, descriptor_length, descriptor_size}
 use Rattle.commands.specs.declared.tag_descriptor_date.TagDescriptorDate.{TagDescriptorDate}
-
--- a descriptor's characters, and its bytes
-abbrev pub descriptor_length : ℕ
-descriptor_length = 16
-
-abbrev pub descriptor_size : ℕ
-descriptor_size = packed_size descriptor_length
 
 -- the characters of both texts
 abbrev pub texts_length : ℕ
@@ -38,7 +33,7 @@ tag_descriptor_date_layout mode tag descriptor day month year = packed_text mode
 unfoldable pub tag_descriptor_date_requested : Mode → List ℕ → List ℕ → ℕ → ℕ → ℕ → List ℕ → Outcome
 tag_descriptor_date_requested mode tag descriptor day month year buffer = fields_written mode layout_size (tag ++ descriptor) (tag_descriptor_date_layout mode tag descriptor day month year) buffer
 
--- what reading a response comes to: carried or refused, and the tag, the descriptor, day, month and year
+-- what reading the layout comes to: carried or refused, and the tag, the descriptor, day, month and year
 pub data Fields : Type 0 where
   reads_fields : Judgement → List ℕ → List ℕ → ℕ → ℕ → ℕ → Fields
 
@@ -59,5 +54,13 @@ fields_refused number values = no_fields_read (withheld number values)
 unfoldable pub fields_read : Mode → List ℕ → Fields
 fields_read mode bs = cond (ltb (length bs) layout_size) (fields_refused 3 []) (fields_at mode bs)
 
+-- a command that has this layout, by its number; a request of command 18 and its response are read alike
+abbrev pub texts_reader : ℕ → Mode → Reader Fields
+texts_reader wanted mode = record { number = wanted; read = fields_read mode; refuse = fields_refused }
+
 abbrev pub command18 : Mode → Reader Fields
-command18 mode = record { number = 18; read = fields_read mode; refuse = fields_refused }
+command18 mode = texts_reader 18 mode
+
+-- The response of command 13 has command 18's layout.
+abbrev pub command13 : Mode → Reader Fields
+command13 mode = texts_reader 13 mode

@@ -1,21 +1,16 @@
--- Document 01, 'Commands': command 9.
-use Rattle.std.specs.Prelude.{ℕ, zero, suc, ◌+◌, ◌*◌, ◌-◌, ◌/◌, min, cond, List, [], ◌∷◌, ◌++◌, length, get_or, drop, replicate, ltb}
+-- Document 01, 'Commands': command 9; and document 02, 1/12: its request as a device reads it.
+use Rattle.std.specs.Prelude.{ℕ, zero, suc, ◌+◌, ◌*◌, ◌-◌, ◌/◌, min, cond, List, [], ◌∷◌, ◌++◌, length, get_or, take, drop, replicate, ltb}
 use Rattle.refusal.specs.Outcome.{Outcome, wrote, refuses}
 use Rattle.octets.specs.Digits.{digits, from_digits}
 use Rattle.packed_string.specs.declared.text_group.Mode.{Mode}
 use Rattle.packed_string.specs.declared.text_group.Mode.TheVariants.{Crate, Standard}
 use Rattle.framing.specs.Payload.{Judgement, carries, withheld, judgement_of, Reader}
+use Rattle.line.specs.machine.Frames.{padded}
+use Rattle.response.specs.Sizes.{most_variables, group_size}
 use Rattle.commands.specs.Worth.{float_of}
 use Rattle.commands.specs.declared.read_device_vars.DeviceVariable.{DeviceVariable}
+use Rattle.commands.specs.declared.read_device_vars.ReadDeviceVarsRequest.{ReadDeviceVarsRequest}
 use Rattle.commands.specs.declared.read_device_vars.ReadDeviceVarsResponse.{ReadDeviceVarsResponse}
-
--- a request asks for so many variables at most, and a response has no more
-abbrev pub most_variables : ℕ
-most_variables = 8
-
--- the bytes of a variable's group
-abbrev pub group_size : ℕ
-group_size = 8
 
 -- The request is 0 to 8 codes: more get 1, and after that a buffer with fewer bytes than codes gets 2.
 unfoldable pub codes_requested : List ℕ → List ℕ → Outcome
@@ -82,3 +77,23 @@ variables_read Standard bs = cond (ltb (length bs) 1) (variables_refused 3 []) (
 
 abbrev pub command9 : Mode → Reader Variables
 command9 mode = record { number = 9; read = variables_read mode; refuse = variables_refused }
+
+-- what reading a request comes to: carried or refused, how many codes, and eight bytes of them, zeros behind the last
+pub data Codes : Type 0 where
+  reads_codes : Judgement → ℕ → List ℕ → Codes
+
+abbrev pub codes_of : ReadDeviceVarsRequest → Codes
+codes_of r = reads_codes (judgement_of r.verdict) r.count r.codes
+
+abbrev pub no_codes_read : Judgement → Codes
+no_codes_read judgement = reads_codes judgement 0 (replicate most_variables 0)
+
+abbrev pub codes_refused : ℕ → List ℕ → Codes
+codes_refused number values = no_codes_read (withheld number values)
+
+-- 3 without a code; the first eight count
+unfoldable pub codes_read : List ℕ → Codes
+codes_read bs = cond (ltb (length bs) 1) (codes_refused 3 []) (reads_codes carries (min most_variables (length bs)) (padded most_variables (take most_variables bs)))
+
+abbrev pub request9 : Reader Codes
+request9 = record { number = 9; read = codes_read; refuse = codes_refused }

@@ -1,11 +1,17 @@
-// The twelve bytes by which a device identifies itself (DeviceIdentity of commands/mod.rs).
+// The twelve bytes by which a device identifies itself (DeviceIdentity of commands/mod.rs), both ways, and the
+// responses that they are.
 ghost use Rattle.std.specs.Prelude.{◌≡◌, ◌≤◌, length};
-ghost use Rattle.commands.specs.Identity.{identity_size, identity_at, identified_of, identity};
+ghost use Rattle.refusal.specs.Outcome.{ends, reply_of};
+ghost use Rattle.framing.specs.Payload.{typed_in};
+ghost use Rattle.commands.specs.Responses.{identity_responded};
+ghost use Rattle.commands.specs.Identity.{identity_at, identity_bytes, identified_of, identity, identity_reader};
+ghost use Rattle.response.specs.Sizes.{identity_size};
 
-use octets::{decode_u16_be, decode_u24_be};
-use refusal::Refusal;
-
-const IDENTITY_SIZE: usize = 12;
+use framing::{PayloadVerdict, payload_part, typed_verdict};
+use octets::{decode_u16_be, decode_u24_be, encode_u16_be, encode_u24_be};
+use refusal::{Refusal, Written};
+use response::{Field, IDENTITY_SIZE, ResponseFields, write_response};
+use types::FrameType;
 
 #[derive(Clone, Copy)]
 pub struct DeviceIdentity {
@@ -56,4 +62,57 @@ impl DeviceIdentity {
         }
         IdentityRead::Identity(identity_at(data))
     }
+
+    // The bits of a number that the line has no room for are lost.
+    pub fn encode(self) -> [u8; IDENTITY_SIZE]
+        ensures { result ≡ identity_bytes self }
+    {
+        let device_type = encode_u16_be(self.expanded_device_type);
+        let number = encode_u24_be(self.device_id);
+        [
+            self.expansion_code,
+            device_type[0],
+            device_type[1],
+            self.min_preamble_count,
+            self.hart_revision,
+            self.device_revision,
+            self.software_revision,
+            self.hardware_revision % 32 * 8 + self.physical_signaling % 8,
+            self.flags,
+            number[0],
+            number[1],
+            number[2],
+        ]
+    }
+}
+
+// The identity that a frame carries for a command whose response it is, or why it carries none.
+pub(crate) fn read_identity(
+    wanted: u8,
+    frame_type: FrameType,
+    command: u8,
+    data: &[u8],
+) -> IdentityRead
+    ensures { identified_of result ≡ typed_in (identity_reader wanted) frame_type command «data».now }
+{
+    let verdict = typed_verdict(wanted, frame_type, command, data);
+    let PayloadVerdict::Refused(refusal) = verdict else {
+        return DeviceIdentity::decode(payload_part(frame_type, data));
+    };
+    IdentityRead::Refused(refusal)
+}
+
+// The response of commands 0 and 11.
+pub(crate) fn write_identity(
+    first: u8,
+    second: u8,
+    identity: DeviceIdentity,
+    payload: &mut [u8],
+) -> Written
+    ensures { ends (reply_of result) payload.new ≡ identity_responded first second identity payload.old }
+{
+    let status = Field::status(first, second);
+    let bytes = Field::identity(identity.encode());
+    let fields = ResponseFields::new().with(status).with(bytes);
+    write_response(fields, payload)
 }

@@ -3,11 +3,12 @@
 #![tactic(auto)]
 
 mod identity;
+pub mod read_device_id;
 pub mod read_device_vars;
+pub mod read_tag_descriptor_date;
 pub mod read_unique_id_by_tag;
 mod reading;
 mod tag_descriptor_date;
-mod text_in_mode;
 pub mod write_tag_descriptor_date;
 
 pub use identity::{DeviceIdentity, IdentityRead};

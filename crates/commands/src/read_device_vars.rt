@@ -1,23 +1,27 @@
 // Command 9 (commands/read_device_vars.rs): the request, the response in the Rust's reading and in the
-// standard one (ADDED), and the response straight from a frame.
-ghost use Rattle.std.specs.Prelude.{◌≡◌, ◌+◌, ◌≤◌, length};
+// standard one (ADDED), and the response straight from a frame; and the same from the device's side (document
+// 02, 1/12), whose responses have the standard layout.
+ghost use Rattle.std.specs.Prelude.{◌≡◌, ◌+◌, ◌≤◌, ◌<◌, length, get_or};
 ghost use Rattle.refusal.specs.Outcome.{ends, reply_of};
 ghost use Rattle.commands.specs.Worth.{worth_of, worth};
 ghost use Rattle.framing.specs.Payload.{judgement_of, typed_in, typed_of};
-ghost use Rattle.commands.specs.Variables.{codes_requested, group_size, variable_at, no_variable, groups_of, variables_of, no_variables_read, groups_read, variables_read, command9};
+ghost use Rattle.framing.specs.Requests.{asked_in, asked_of};
+ghost use Rattle.commands.specs.Responses.{variables_responded};
+ghost use Rattle.commands.specs.Variables.{codes_requested, variable_at, group_bytes, no_variable, groups_of, variables_of, no_variables_read, groups_read, variables_read, command9, codes_of, no_codes_read, codes_read, request9};
+ghost use Rattle.response.specs.Sizes.{most_variables, group_size};
+ghost use Rattle.response.specs.Field.{field_of};
+ghost use Rattle.response.specs.declared.field.Kind.TheVariants.{Group};
+ghost use Rattle.commands.specs.Code.{variables_fields};
 
 use crate::reading::{Reading, value_of};
-use framing::{Frame, PayloadVerdict, payload_part, typed_verdict};
-use octets::{copy_into, decode_u32_be};
+use framing::{Frame, PayloadVerdict, payload_part, request_verdict, typed_verdict};
+use octets::{copy_into, decode_u32_be, encode_u32_be, least};
 use packed_string::Mode;
 use refusal::{Refusal, Written};
+pub use response::MAX_DEVICE_VARS;
+use response::{Field, GROUP_SIZE, ResponseFields, write_response};
 use types::FrameType;
 use types::consts::commands::READ_DEVICE_VARS_WITH_STATUS;
-
-// A response's groups are bounded by this, and a request's codes.
-pub const MAX_DEVICE_VARS: usize = 8;
-
-const GROUP_SIZE: usize = 8;
 
 // A unit is its raw byte. The value is that of `bits`, which are the line's own: a value that is the NaN
 // has lost which of its patterns the line sent.
@@ -29,6 +33,14 @@ pub struct DeviceVariable {
     pub value: f32,
     pub bits: u32,
     pub status: u8,
+}
+
+// The codes are the first `count`; zeros follow them, and stand beside a refusal.
+#[derive(Clone, Copy)]
+pub struct ReadDeviceVarsRequest {
+    pub verdict: PayloadVerdict,
+    pub count: u8,
+    pub codes: [u8; MAX_DEVICE_VARS],
 }
 
 // The variables are the first `count`; all zeros follow them, and stand beside a refusal.
@@ -45,6 +57,23 @@ impl DeviceVariable {
         ensures { worth_of result ≡ worth self.status self.bits }
     {
         Reading::of(self.status, self.bits)
+    }
+
+    // Its group. The float is written by its bits.
+    pub fn encode(self) -> [u8; GROUP_SIZE]
+        ensures { result ≡ group_bytes self }
+    {
+        let float = encode_u32_be(self.bits);
+        [
+            self.device_var_code,
+            self.classification,
+            self.unit,
+            float[0],
+            float[1],
+            float[2],
+            float[3],
+            self.status,
+        ]
     }
 }
 
@@ -176,4 +205,103 @@ pub fn read_response(mode: Mode, frame: Frame) -> ReadDeviceVarsResponse
     let data = frame.data;
     let length = frame.length as usize;
     read_frame(mode, frame_type, frame.command, &data[0..length])
+}
+
+fn refused_request(verdict: PayloadVerdict) -> ReadDeviceVarsRequest
+    ensures { codes_of result ≡ no_codes_read (judgement_of verdict) }
+{
+    ReadDeviceVarsRequest {
+        verdict,
+        count: 0,
+        codes: [0u8; MAX_DEVICE_VARS],
+    }
+}
+
+// The first eight codes count, and those past them are not looked at.
+fn read_codes(data: &[u8]) -> ReadDeviceVarsRequest
+    ensures { codes_of result ≡ codes_read «data».now }
+{
+    if data.len() < 1 {
+        return refused_request(PayloadVerdict::Refused(Refusal::BufferTooShort));
+    }
+    let count = least(MAX_DEVICE_VARS, data.len());
+    let mut codes = [0u8; MAX_DEVICE_VARS];
+    copy_into(&data[..count], &mut codes, 0);
+    ReadDeviceVarsRequest {
+        verdict: PayloadVerdict::Carried,
+        count: count as u8,
+        codes,
+    }
+}
+
+// The codes of the variables that a request asks for, as a device reads them.
+pub fn read_request_frame(frame_type: FrameType, command: u8, data: &[u8]) -> ReadDeviceVarsRequest
+    ensures { codes_of result ≡ asked_in request9 frame_type command «data».now }
+{
+    let verdict = request_verdict(READ_DEVICE_VARS_WITH_STATUS, frame_type, command);
+    let PayloadVerdict::Carried = verdict else {
+        return refused_request(verdict);
+    };
+    read_codes(data)
+}
+
+// The same of a frame that a decoder found.
+pub fn read_request(frame: Frame) -> ReadDeviceVarsRequest
+    ensures { codes_of result ≡ asked_of request9 frame }
+{
+    let frame_type = frame.frame_type;
+    let data = frame.data;
+    let length = frame.length as usize;
+    read_request_frame(frame_type, frame.command, &data[0..length])
+}
+
+fn group_at(variables: [DeviceVariable; MAX_DEVICE_VARS], i: usize) -> Field
+    requires { i < most_variables }
+    ensures { result ≡ field_of Group (group_bytes (get_or variables i no_variable)) }
+{
+    let variable = variables[i];
+    Field::group(variable.encode())
+}
+
+// The fields of a response with the groups of the first n variables.
+fn fields_of(
+    first: u8,
+    second: u8,
+    extended: u8,
+    variables: [DeviceVariable; MAX_DEVICE_VARS],
+    n: usize,
+) -> ResponseFields
+    requires { n ≤ most_variables }
+    ensures { result ≡ variables_fields first second extended variables n }
+{
+    let status = Field::status(first, second);
+    let extended = Field::extended_status(extended);
+    let mut fields = ResponseFields::new().with(status).with(extended);
+    let mut i = 0;
+    while i < n {
+        let group = group_at(variables, i);
+        fields = fields.with(group);
+        i += 1;
+    }
+    fields
+}
+
+// Writes a device's response: the two status bytes, the extended status and the groups of the first `count`
+// variables, of which there are eight at most.
+pub fn encode_response(
+    first: u8,
+    second: u8,
+    extended: u8,
+    variables: [DeviceVariable; MAX_DEVICE_VARS],
+    count: u8,
+    payload: &mut [u8],
+) -> Written
+    ensures { ends (reply_of result) payload.new ≡ variables_responded first second extended variables count payload.old }
+{
+    let n = count as usize;
+    if n > MAX_DEVICE_VARS {
+        return Written::Refused(Refusal::DataTooLong);
+    }
+    let fields = fields_of(first, second, extended, variables, n);
+    write_response(fields, payload)
 }

@@ -1,19 +1,30 @@
 // Command 11 (commands/read_unique_id_by_tag.rs), its text in both modes: the request, the response,
-// which is an identity, and the response straight from a frame.
+// which is an identity, and the response straight from a frame; and the same from the device's side (document
+// 02, 1/12).
 ghost use Rattle.std.specs.Prelude.{◌≡◌};
 ghost use Rattle.refusal.specs.Outcome.{ends, reply_of};
-ghost use Rattle.framing.specs.Payload.{typed_in, typed_of};
+ghost use Rattle.framing.specs.Payload.{judgement_of, typed_in, typed_of};
+ghost use Rattle.framing.specs.Requests.{asked_in, asked_of};
 ghost use Rattle.commands.specs.Identity.{identified_of, identity};
-ghost use Rattle.commands.specs.Modes.{unpacked_text};
-ghost use Rattle.commands.specs.Tag.{tag_requested, command11};
+ghost use Rattle.packed_string.specs.Modes.{unpacked_text};
+ghost use Rattle.commands.specs.Tag.{tag_requested, command11, tagged_of, no_tag_read, tag_read, request11};
+ghost use Rattle.commands.specs.Responses.{identity_responded};
 
-use crate::identity::{DeviceIdentity, IdentityRead};
-use crate::text_in_mode::{TAG_LENGTH, TAG_SIZE, decode_in, encode_in};
-use framing::{Frame, PayloadVerdict, payload_part, typed_verdict};
-use packed_string::Mode;
+use crate::identity::{DeviceIdentity, IdentityRead, read_identity, write_identity};
+use crate::tag_descriptor_date::TAG_SIZE;
+use framing::{Frame, PayloadVerdict, request_verdict};
+use packed_string::{Mode, decode_in, encode_in};
 use refusal::{Refusal, Written};
+use response::TAG_LENGTH;
 use types::FrameType;
 use types::consts::commands::READ_UNIQUE_ID_BY_TAG;
+
+// Beside a refusal every byte is zero.
+#[derive(Clone, Copy)]
+pub struct ReadUniqueIdByTagRequest {
+    pub verdict: PayloadVerdict,
+    pub tag: [u8; TAG_LENGTH],
+}
 
 // Writes the tag, packed.
 pub fn encode_data(mode: Mode, tag: [u8; TAG_LENGTH], buf: &mut [u8]) -> Written
@@ -44,11 +55,7 @@ pub fn decode_tag(mode: Mode, packed: [u8; TAG_SIZE]) -> [u8; TAG_LENGTH]
 pub fn read_frame(frame_type: FrameType, command: u8, data: &[u8]) -> IdentityRead
     ensures { identified_of result ≡ typed_in command11 frame_type command «data».now }
 {
-    let verdict = typed_verdict(READ_UNIQUE_ID_BY_TAG, frame_type, command, data);
-    let PayloadVerdict::Refused(refusal) = verdict else {
-        return DeviceIdentity::decode(payload_part(frame_type, data));
-    };
-    IdentityRead::Refused(refusal)
+    read_identity(READ_UNIQUE_ID_BY_TAG, frame_type, command, data)
 }
 
 // The same of a frame that a decoder found: its data are the first `length` bytes of its array.
@@ -59,4 +66,66 @@ pub fn read_response(frame: Frame) -> IdentityRead
     let data = frame.data;
     let length = frame.length as usize;
     read_frame(frame_type, frame.command, &data[0..length])
+}
+
+fn refused(verdict: PayloadVerdict) -> ReadUniqueIdByTagRequest
+    ensures { tagged_of result ≡ no_tag_read (judgement_of verdict) }
+{
+    ReadUniqueIdByTagRequest {
+        verdict,
+        tag: [0u8; TAG_LENGTH],
+    }
+}
+
+// Bytes past the packed tag are not looked at.
+fn read_tag(mode: Mode, data: &[u8]) -> ReadUniqueIdByTagRequest
+    ensures { tagged_of result ≡ tag_read mode «data».now }
+{
+    if data.len() < TAG_SIZE {
+        return refused(PayloadVerdict::Refused(Refusal::BufferTooShort));
+    }
+    let mut tag = [0x20u8; TAG_LENGTH];
+    decode_in(mode, &data[0..TAG_SIZE], &mut tag);
+    ReadUniqueIdByTagRequest {
+        verdict: PayloadVerdict::Carried,
+        tag,
+    }
+}
+
+// The tag that a request asks for, as a device reads it.
+pub fn read_request_frame(
+    mode: Mode,
+    frame_type: FrameType,
+    command: u8,
+    data: &[u8],
+) -> ReadUniqueIdByTagRequest
+    ensures { tagged_of result ≡ asked_in (request11 mode) frame_type command «data».now }
+{
+    let verdict = request_verdict(READ_UNIQUE_ID_BY_TAG, frame_type, command);
+    let PayloadVerdict::Carried = verdict else {
+        return refused(verdict);
+    };
+    read_tag(mode, data)
+}
+
+// The same of a frame that a decoder found.
+pub fn read_request(mode: Mode, frame: Frame) -> ReadUniqueIdByTagRequest
+    ensures { tagged_of result ≡ asked_of (request11 mode) frame }
+{
+    let frame_type = frame.frame_type;
+    let data = frame.data;
+    let length = frame.length as usize;
+    read_request_frame(mode, frame_type, frame.command, &data[0..length])
+}
+
+// Writes a device's response: the two status bytes and the identity.
+pub fn encode_response(
+    first: u8,
+    second: u8,
+    identity: DeviceIdentity,
+    payload: &mut [u8],
+) -> Written
+    ensures { ends (reply_of result) payload.new ≡ identity_responded first second identity payload.old }
+{
+    write_identity(first, second, identity, payload)
 }

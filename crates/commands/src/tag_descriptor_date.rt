@@ -1,16 +1,21 @@
 // A tag, a descriptor and a date in one layout, which the requests and responses that carry them share.
 ghost use Rattle.std.specs.Prelude.{◌≡◌, ◌++◌, ◌≤◌, length};
+ghost use Rattle.refusal.specs.Outcome.{ends, reply_of};
 ghost use Rattle.octets.specs.Put.{put};
-ghost use Rattle.framing.specs.Payload.{judgement_of};
-ghost use Rattle.commands.specs.Modes.{bad_in};
-ghost use Rattle.commands.specs.TagDescriptorDate.{texts_length, layout_size, tag_descriptor_date_layout, fields_of, no_fields_read, fields_read};
+ghost use Rattle.framing.specs.Payload.{judgement_of, typed_in};
+ghost use Rattle.packed_string.specs.Modes.{bad_in};
+ghost use Rattle.commands.specs.Code.{texts_fields};
+ghost use Rattle.commands.specs.Responses.{tag_descriptor_date_responded};
+ghost use Rattle.commands.specs.TagDescriptorDate.{texts_length, layout_size, tag_descriptor_date_layout, fields_of, no_fields_read, fields_read, texts_reader};
 
-use crate::text_in_mode::{TAG_LENGTH, TAG_SIZE, bad_place_in, decode_in, encode_in};
-use framing::PayloadVerdict;
-use packed_string::Mode;
-use refusal::Refusal;
+use framing::{PayloadVerdict, payload_part, typed_verdict};
+use packed_string::{Mode, bad_place_in, decode_in, encode_in};
+use refusal::{Refusal, Written};
+use response::{DESCRIPTOR_LENGTH, Field, ResponseFields, TAG_LENGTH, write_response};
+use types::FrameType;
 
-pub(crate) const DESCRIPTOR_LENGTH: usize = 16;
+// The bytes that a tag is packed in: three for four characters.
+pub(crate) const TAG_SIZE: usize = TAG_LENGTH / 4 * 3;
 
 // The characters of both texts.
 pub(crate) const TEXTS_LENGTH: usize = TAG_LENGTH + DESCRIPTOR_LENGTH;
@@ -104,4 +109,62 @@ pub(crate) fn read_layout(mode: Mode, data: &[u8]) -> TagDescriptorDate
         month: data[MONTH_AT],
         year: data[YEAR_AT],
     }
+}
+
+// The fields that a frame carries for a command that has this layout, or why it carries none.
+pub(crate) fn read_texts(
+    wanted: u8,
+    mode: Mode,
+    frame_type: FrameType,
+    command: u8,
+    data: &[u8],
+) -> TagDescriptorDate
+    ensures { fields_of result ≡ typed_in (texts_reader wanted mode) frame_type command «data».now }
+{
+    let verdict = typed_verdict(wanted, frame_type, command, data);
+    let PayloadVerdict::Carried = verdict else {
+        return refused(verdict);
+    };
+    read_layout(mode, payload_part(frame_type, data))
+}
+
+// The fields of the response of commands 13 and 18.
+fn fields_of(
+    mode: Mode,
+    first: u8,
+    second: u8,
+    tag: [u8; TAG_LENGTH],
+    descriptor: [u8; DESCRIPTOR_LENGTH],
+    day: u8,
+    month: u8,
+    year: u8,
+) -> ResponseFields
+    ensures { result ≡ texts_fields mode first second tag descriptor day month year }
+{
+    let status = Field::status(first, second);
+    let tag = Field::tag(mode, tag);
+    let descriptor = Field::descriptor(mode, descriptor);
+    let date = Field::date(day, month, year);
+    let texts = ResponseFields::new()
+        .with(status)
+        .with(tag)
+        .with(descriptor);
+    texts.with(date)
+}
+
+pub(crate) fn write_texts_and_date(
+    mode: Mode,
+    first: u8,
+    second: u8,
+    tag: [u8; TAG_LENGTH],
+    descriptor: [u8; DESCRIPTOR_LENGTH],
+    day: u8,
+    month: u8,
+    year: u8,
+    payload: &mut [u8],
+) -> Written
+    ensures { ends (reply_of result) payload.new ≡ tag_descriptor_date_responded mode first second tag descriptor day month year payload.old }
+{
+    let fields = fields_of(mode, first, second, tag, descriptor, day, month, year);
+    write_response(fields, payload)
 }

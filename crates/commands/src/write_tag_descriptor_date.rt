@@ -1,18 +1,21 @@
 // Command 18 (commands/write_tag_descriptor_date.rs), its text in both modes: the request, the
-// response, which has the same layout, and the response straight from a frame.
+// response, which has the same layout, and the response straight from a frame; and the same from the device's
+// side (document 02, 1/12).
 ghost use Rattle.std.specs.Prelude.{◌≡◌};
 ghost use Rattle.refusal.specs.Outcome.{ends, reply_of};
 ghost use Rattle.framing.specs.Payload.{typed_in, typed_of};
+ghost use Rattle.framing.specs.Requests.{asked_in, asked_of};
+ghost use Rattle.commands.specs.Responses.{tag_descriptor_date_responded};
 ghost use Rattle.commands.specs.TagDescriptorDate.{tag_descriptor_date_requested, fields_of, fields_read, command18};
 
 use crate::tag_descriptor_date::{
-    DESCRIPTOR_LENGTH, LAYOUT_SIZE, TEXTS_LENGTH, TagDescriptorDate, bad_place_in_texts,
-    read_layout, refused, write_layout,
+    LAYOUT_SIZE, TEXTS_LENGTH, TagDescriptorDate, bad_place_in_texts, read_layout, read_texts,
+    refused, write_layout, write_texts_and_date,
 };
-use crate::text_in_mode::TAG_LENGTH;
-use framing::{Frame, PayloadVerdict, payload_part, typed_verdict};
+use framing::{Frame, PayloadVerdict, request_verdict};
 use packed_string::Mode;
 use refusal::{Refusal, Written};
+use response::{DESCRIPTOR_LENGTH, TAG_LENGTH};
 use types::FrameType;
 use types::consts::commands::WRITE_TAG_DESCRIPTOR_DATE;
 
@@ -49,11 +52,7 @@ pub fn decode_data(mode: Mode, data: &[u8]) -> TagDescriptorDate
 pub fn read_frame(mode: Mode, frame_type: FrameType, command: u8, data: &[u8]) -> TagDescriptorDate
     ensures { fields_of result ≡ typed_in (command18 mode) frame_type command «data».now }
 {
-    let verdict = typed_verdict(WRITE_TAG_DESCRIPTOR_DATE, frame_type, command, data);
-    let PayloadVerdict::Carried = verdict else {
-        return refused(verdict);
-    };
-    read_layout(mode, payload_part(frame_type, data))
+    read_texts(WRITE_TAG_DESCRIPTOR_DATE, mode, frame_type, command, data)
 }
 
 // The same of a frame that a decoder found: its data are the first `length` bytes of its array.
@@ -64,4 +63,49 @@ pub fn read_response(mode: Mode, frame: Frame) -> TagDescriptorDate
     let data = frame.data;
     let length = frame.length as usize;
     read_frame(mode, frame_type, frame.command, &data[0..length])
+}
+
+// The fields that a request has, as a device reads them.
+pub fn read_request_frame(
+    mode: Mode,
+    frame_type: FrameType,
+    command: u8,
+    data: &[u8],
+) -> TagDescriptorDate
+    ensures { fields_of result ≡ asked_in (command18 mode) frame_type command «data».now }
+{
+    let verdict = request_verdict(WRITE_TAG_DESCRIPTOR_DATE, frame_type, command);
+    let PayloadVerdict::Carried = verdict else {
+        return refused(verdict);
+    };
+    read_layout(mode, data)
+}
+
+// The same of a frame that a decoder found.
+pub fn read_request(mode: Mode, frame: Frame) -> TagDescriptorDate
+    ensures { fields_of result ≡ asked_of (command18 mode) frame }
+{
+    let frame_type = frame.frame_type;
+    let data = frame.data;
+    let length = frame.length as usize;
+    read_request_frame(mode, frame_type, frame.command, &data[0..length])
+}
+
+// Writes a device's response: the two status bytes and the fields as they were written.
+pub fn encode_response(
+    mode: Mode,
+    first: u8,
+    second: u8,
+    tag: [u8; TAG_LENGTH],
+    descriptor: [u8; DESCRIPTOR_LENGTH],
+    day: u8,
+    month: u8,
+    year: u8,
+    payload: &mut [u8],
+) -> Written
+    ensures { ends (reply_of result) payload.new ≡ tag_descriptor_date_responded mode first second tag descriptor day month year payload.old }
+{
+    write_texts_and_date(
+        mode, first, second, tag, descriptor, day, month, year, payload,
+    )
 }

@@ -1,13 +1,8 @@
 // What the example prints, on standard output, and the front of a slice.
 ghost use Rattle.std.specs.Prelude.{◌≤◌};
 
+use octets::least;
 use refusal::Refusal;
-
-fn least(a: usize, b: usize) -> usize
-    ensures { result ≤ b }
-{
-    if a < b { a } else { b }
-}
 
 // The first n bytes. What `least` promises is why this cannot go past the end: the check refuses a slice
 // that might.

@@ -16,14 +16,16 @@ use Rattle.framing.specs.Payload.{Reader, typed_in, typed_of}
 use Rattle.framing.specs.Responses.{heard_at_check, HeardRead}
 use Rattle.framing.proofs.Demand.{answered}
 use Rattle.framing.proofs.Payloads.{carries_exactly}
+use Rattle.framing.specs.Requests.{asked_of}
 use Rattle.framing.proofs.Typed.{typed_carried, reads_wire}
+use Rattle.framing.proofs.Requests.{asks_wire}
 
 -- pieces joined
-joined-append : (ps qs : List Piece) → joined (ps ++ qs) ≡ joined ps ++ joined qs
+pub joined-append : (ps qs : List Piece) → joined (ps ++ qs) ≡ joined ps ++ joined qs
 joined-append [] qs = refl
 joined-append (p ∷ ps) qs = ap (λ (bs : List ℕ). bytes_of p ++ bs) (joined-append ps qs) ∙ sym (append_assoc (bytes_of p) (joined ps) (joined qs))
 
-hold_append : (ps qs : List Piece) → AllHold ps → AllHold qs → AllHold (ps ++ qs)
+pub hold_append : (ps qs : List Piece) → AllHold ps → AllHold qs → AllHold (ps ++ qs)
 hold_append [] qs h k = k
 hold_append (p ∷ ps) qs h k = (h.0, hold_append ps qs h.1 k)
 
@@ -92,5 +94,6 @@ module _ (ps : List Piece) (n : ℕ) (w : Wire) (hold : AllHold ps) (holds : Hol
       record {
         answer = ap (λ (h : Heard). h.answer) heard_at_check_lem;
         reading = here;
+        asking = ap (λ (h : Heard). asked_of k h.frame) heard_at_check_lem ∙ asks_wire k w;
         response = λ r. here ∙ typed_carried k t w.command ds r.asked ((carries_exactly t ds).1 (r.sent, r.statuses, r.clean));
       }

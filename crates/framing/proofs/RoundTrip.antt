@@ -31,7 +31,7 @@ use Rattle.framing.proofs.Demand.{answered}
 use Rattle.framing.proofs.Responses.{frame_heard_lem}
 
 -- what is written is bytes
-layout_bytes : (h : Handed) → length h.payload ≤ data_room → Bytes (layout h.preamble_count (written h))
+pub layout_bytes : (h : Handed) → length h.payload ≤ data_room → Bytes (layout h.preamble_count (written h))
 layout_bytes h k =
     let d : delimiter (written h).opening < 256 = omega (arith, delimiter_small (written h).opening) in
     let inner : Bytes (body (written h)) =
@@ -41,7 +41,7 @@ layout_bytes h k =
     (check_below 0 (body (written h)) (lit< tt) inner, tt)
 
 -- the frame that a reader is handed is the one that was handed over, if its address is within its limits
-told_back : (h : Handed) → Limited h.address → heard_of (found (written h)) ≡ heard_back h
+pub told_back : (h : Handed) → Limited h.address → heard_of (found (written h)) ≡ heard_back h
 told_back h l = rw (sym (read_taken (is_long h.address) (address_bytes h.address)), address_back h.address l)
 
 pub written_heard : (h : Handed) → enough ≤ h.preamble_count → Limited h.address → (before : List ℕ) (count : ℕ) (after : List ℕ) → IsDone h before count after

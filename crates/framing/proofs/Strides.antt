@@ -10,11 +10,12 @@ use lib.ListN.{length, take, drop}
 use lib.Seq.{take-take, take-add, drop-drop}
 use Rattle.octets.specs.Check.{check_from}
 use Rattle.octets.proofs.Check.{check-append, check_zeros, check_swap}
+use Rattle.octets.proofs.Tests.{and_first, and_second}
 use Rattle.types.specs.Address.{head_room}
 use Rattle.line.specs.machine.Room.{decoder_room}
 use Rattle.line.specs.machine.Reachable.{all_zero, is_clear}
 use Rattle.line.specs.declared.claim.Claim.{Claim}
-use Rattle.line.proofs.machine.Zeros.{and_first, and_second, zeros_list}
+use Rattle.line.proofs.machine.Zeros.{zeros_list}
 
 -- how many at a time, and what four strides leave of a decoder's bytes, as the code has them
 abbrev pub stride : ℕ

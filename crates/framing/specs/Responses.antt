@@ -1,4 +1,4 @@
--- Document 01, 'Commands': from the bytes of a line to what a command's typed reading gives.
+-- Document 01, 'Commands': from the bytes of a line to what a command's typed reading gives; and document 02, 1/12: to a device's reading.
 use Rattle.std.specs.Prelude.{ℕ, ◌≤◌, ◌≡◌, ◌≢◌, List, ◌++◌, length, get_or, drop}
 use Rattle.types.specs.declared.delimiter.FrameType.TheVariants.{Request}
 use Rattle.line.specs.Layout.{Wire, preambles, body, check_of}
@@ -9,6 +9,7 @@ use Rattle.line.specs.declared.frame.Heard.{Heard}
 use Rattle.framing.specs.Feed.{fresh_decoder}
 use Rattle.framing.specs.Demand.{decoder_hears}
 use Rattle.framing.specs.Payload.{Reader, typed_in, typed_of}
+use Rattle.framing.specs.Requests.{asked_in, asked_of}
 
 -- a frame stands behind whole pieces: what a new decoder, fed all in front of the frame's check, hears at the check
 abbrev pub heard_at_check : List Piece → ℕ → Wire → Heard
@@ -21,9 +22,10 @@ pub record Responds (wanted : ℕ) (w : Wire) : Type 0 where
   pub statuses : 2 ≤ length w.payload
   pub clean : get_or w.payload 0 0 ≡ 0
 
--- a frame is found there, and a command's typed reading of it gives what its definition says of the payload as it stands on the line;
--- of an answer to that command, all behind the two status bytes is read
+-- a frame is found there, and a command's typed reading of it gives what its definition says of the payload as it stands on the line,
+-- and so does a device's reading; of an answer to that command, all behind the two status bytes is read
 pub record HeardRead {A : Type 0} (k : Reader A) (ps : List Piece) (n : ℕ) (w : Wire) : Type 0 where
   pub answer : (heard_at_check ps n w).answer ≡ Found
   pub reading : typed_of k (heard_at_check ps n w).frame ≡ typed_in k w.opening.frame_type w.command w.payload
+  pub asking : asked_of k (heard_at_check ps n w).frame ≡ asked_in k w.opening.frame_type w.command w.payload
   pub response : Responds k.number w → typed_of k (heard_at_check ps n w).frame ≡ k.read (drop 2 w.payload)

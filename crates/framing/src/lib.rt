@@ -13,5 +13,5 @@ pub use byte::step;
 pub use decode::{Decoder, Fed};
 pub use encode::encode_frame;
 pub use line::{Answer, Frame, Head, Heard, State};
-pub use payload::{PayloadVerdict, payload_part, payload_verdict, typed_verdict};
+pub use payload::{PayloadVerdict, payload_part, payload_verdict, request_verdict, typed_verdict};
 pub use reachable::is_reachable;

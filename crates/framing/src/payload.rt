@@ -1,7 +1,9 @@
 // The payload of a response or a burst frame: document 01, 'Commands'. The verdict and the part are
-// two functions, since an enum holds no slice.
+// two functions, since an enum holds no slice. Beside them the verdict of a device on a request (document 02,
+// 1/12), whose data are the payload.
 ghost use Rattle.std.specs.Prelude.{◌≡◌};
 ghost use Rattle.octets.specs.Part.{part_of};
+ghost use Rattle.framing.specs.Requests.{request_judgement, asked};
 ghost use Rattle.framing.specs.Payload.{judgement_of, judged, payload_judgement, payload_part, typed};
 
 use refusal::Refusal;
@@ -59,6 +61,27 @@ pub fn typed_verdict(wanted: u8, frame_type: FrameType, command: u8, data: &[u8]
 {
     if command == wanted {
         return payload_verdict(frame_type, data);
+    }
+    PayloadVerdict::Refused(Refusal::WrongFrame)
+}
+
+fn type_verdict(frame_type: FrameType) -> PayloadVerdict
+    ensures { judgement_of result ≡ request_judgement frame_type }
+{
+    match frame_type {
+        FrameType::Request => PayloadVerdict::Carried,
+        FrameType::Response => PayloadVerdict::Refused(Refusal::WrongFrame),
+        FrameType::Burst => PayloadVerdict::Refused(Refusal::WrongFrame),
+    }
+}
+
+// Whether a frame is the request that a command's own reader asks for, as a device reads it. Its data are not
+// looked at.
+pub fn request_verdict(wanted: u8, frame_type: FrameType, command: u8) -> PayloadVerdict
+    ensures { judgement_of result ≡ asked wanted frame_type command }
+{
+    if command == wanted {
+        return type_verdict(frame_type);
     }
     PayloadVerdict::Refused(Refusal::WrongFrame)
 }

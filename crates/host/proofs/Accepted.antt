@@ -10,6 +10,7 @@ use lib.Seq.{take_at, drop_at, length-take-le}
 use borrow.Author.Tests.{eqb-true, eq-eqb, ltb-true, leb-true}
 use Rattle.octets.specs.Digits.{digits, from_digits}
 use Rattle.octets.proofs.Bases.{length_digits, from_digits_whole, digits_from}
+use Rattle.octets.proofs.Tests.{and_first, and_second}
 use Rattle.types.specs.Address.{head_length}
 use Rattle.types.proofs.Addresses.{head_length_le}
 use Rattle.line.specs.machine.Step.{opening_in}
@@ -29,7 +30,6 @@ use Rattle.line.specs.declared.state.State.TheVariants.{
   Data,
   Checksum,
 }
-use Rattle.line.proofs.machine.Zeros.{and_first, and_second}
 use Rattle.line.proofs.machine.Claims.{whole, possible}
 use Rattle.line.proofs.machine.Exact.{reached_reachable, reachable_reached}
 use Rattle.line.proofs.machine.Small.{reached_value}

@@ -1,11 +1,13 @@
 // Packed text: in the mode of the Rust's packed_string.rs here, in the mode of the HART documents (ADDED),
-// which the Rust does not have, in standard_text. Below both are one group and groups at their places.
+// which the Rust does not have, in standard_text, and in the mode that a caller names in text_in_mode. Below
+// them are one group and groups at their places.
 #![tactic(auto)]
 
 mod bad_character;
 mod standard_text;
 mod text_group;
 mod text_groups;
+mod text_in_mode;
 
 ghost use Rattle.std.specs.Prelude.{◌≡◌, [], ◌∷◌};
 ghost use Rattle.refusal.specs.Outcome.{done, ends};
@@ -15,6 +17,7 @@ pub use bad_character::bad_place;
 pub use standard_text::{decode_standard, encode_standard};
 pub use text_group::Mode;
 use text_groups::{pack, unpack};
+pub use text_in_mode::{bad_place_in, decode_in, encode_in};
 
 // Packs as many whole groups of the text as fit and tells how many bytes it wrote.
 pub fn encode_packed(src: &[u8], dst: &mut [u8]) -> usize

@@ -1,23 +1,17 @@
 // Groups of packed text in either mode (packed_string.rs), at their places in a lent buffer. Nothing is
 // refused here: as many whole groups are written as there are and fit.
-ghost use Rattle.std.specs.Prelude.{◌≡◌, ◌+◌, ◌*◌, ◌≤◌, min, length, get_or};
+ghost use Rattle.std.specs.Prelude.{◌≡◌, ◌+◌, ◌*◌, ◌≤◌, length, get_or};
 ghost use Rattle.octets.specs.Put.{put};
 ghost use Rattle.packed_string.specs.Groups.{groups, packed_group, unpacked_group, packed, unpacked, packed_count, unpacked_count};
 
 use crate::text_group::{Mode, packed_group, unpacked_group};
-use octets::copy_into;
+use octets::{copy_into, least};
 
 // The Rust's `div_ceil`, by 4: no sum of a length is formed.
 fn groups_of(n: usize) -> usize
     ensures { result ≡ groups n }
 {
     if n % 4 == 0 { n / 4 } else { n / 4 + 1 }
-}
-
-fn least(a: usize, b: usize) -> usize
-    ensures { result ≡ min a b }
-{
-    if a <= b { a } else { b }
 }
 
 // The character at a place; past the end of the text stands a space.

@@ -1,10 +1,10 @@
 // What a measured value is worth, letter m. A float's bits cannot be had in Rattle, so the variable's bits
 // are shown if the reading's float and the variable's value are the float that is made of them here, by
 // arithmetic alone: where the library reads bits otherwise the answer is `other`.
-use crate::bytes::u32_bytes;
 use crate::text::{OUT_SIZE, put_bytes, put_text};
 use commands::read_device_vars::DeviceVariable;
 use commands::{Mode, Reading, read_device_vars};
+use octets::encode_u32_be;
 use std::num::nearest_u32_to_f32;
 
 // The exponent bits that stand for a factor of 1, where the significand is read as a whole number.
@@ -65,7 +65,7 @@ fn put_float(
     let made = float_of(variable.bits);
     let next = put_text(word, 0, out, at);
     if is_same(float, made) & is_same(variable.value, made) {
-        return put_bytes(&u32_bytes(variable.bits), out, next);
+        return put_bytes(&encode_u32_be(variable.bits), out, next);
     }
     put_text(b"other", 0, out, next)
 }

@@ -4,11 +4,14 @@ use crate::choices::{frame_type_of, mode_of};
 use crate::readers::{put_date, put_identity, put_variables};
 use crate::shape::TYPED_HEAD;
 use crate::text::{OUT_SIZE, put, put_buffer, put_refusal};
-use commands::{Mode, read_device_vars, read_unique_id_by_tag, write_tag_descriptor_date};
+use commands::{
+    Mode, read_device_id, read_device_vars, read_tag_descriptor_date, read_unique_id_by_tag,
+    write_tag_descriptor_date,
+};
 use framing::{PayloadVerdict, payload_part, payload_verdict};
 use types::FrameType;
 
-fn put_verdict(verdict: PayloadVerdict, out: &mut [u8; OUT_SIZE], at: usize) -> usize {
+pub(crate) fn put_verdict(verdict: PayloadVerdict, out: &mut [u8; OUT_SIZE], at: usize) -> usize {
     match verdict {
         PayloadVerdict::Carried => put(b'.', out, at),
         PayloadVerdict::Refused(refusal) => put_refusal(refusal, out, at),
@@ -36,6 +39,11 @@ fn put_typed(
     at: usize,
 ) -> usize {
     match reader {
+        0 => put_identity(
+            read_device_id::read_frame(frame_type, command, data),
+            out,
+            at,
+        ),
         9 => put_variables(
             read_device_vars::read_frame(mode, frame_type, command, data),
             out,
@@ -43,6 +51,11 @@ fn put_typed(
         ),
         11 => put_identity(
             read_unique_id_by_tag::read_frame(frame_type, command, data),
+            out,
+            at,
+        ),
+        13 => put_date(
+            read_tag_descriptor_date::read_frame(mode, frame_type, command, data),
             out,
             at,
         ),

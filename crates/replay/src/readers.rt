@@ -1,14 +1,15 @@
-// The calls that only read, letters a, s, i, g, G, j, k, K, h and H.
+// The calls that only read, letters a, s, i, I, g, G, j, k, K, h, H and J.
 use crate::addresses::address_bytes;
-use crate::bytes::{byte_at, rest, u32_bytes};
-use crate::text::{OUT_SIZE, least, put, put_bytes, put_marked, put_refusal};
+use crate::bytes::{byte_at, rest};
+use crate::choices::mode_of;
+use crate::text::{OUT_SIZE, put, put_bytes, put_marked, put_refusal};
 use commands::read_device_vars::{DeviceVariable, MAX_DEVICE_VARS, ReadDeviceVarsResponse};
 use commands::{
-    DeviceIdentity, IdentityRead, Mode, TagDescriptorDate, read_device_vars, read_unique_id_by_tag,
-    write_tag_descriptor_date,
+    DeviceIdentity, IdentityRead, Mode, TagDescriptorDate, read_device_vars,
+    read_tag_descriptor_date, read_unique_id_by_tag, write_tag_descriptor_date,
 };
 use framing::PayloadVerdict;
-use octets::encode_u16_be;
+use octets::{encode_u16_be, encode_u32_be, least};
 use types::{Address, AddressRead, ResponseStatus};
 
 fn put_address_read(read: AddressRead, out: &mut [u8; OUT_SIZE], at: usize) -> usize {
@@ -49,7 +50,7 @@ pub(crate) fn read_status(bytes: &[u8], out: &mut [u8; OUT_SIZE], at: usize) -> 
 
 fn identity_bytes(identity: DeviceIdentity) -> [u8; 14] {
     let device_type = encode_u16_be(identity.expanded_device_type);
-    let number = u32_bytes(identity.device_id);
+    let number = encode_u32_be(identity.device_id);
     [
         identity.expansion_code,
         device_type[0],
@@ -76,7 +77,7 @@ pub(crate) fn put_identity(read: IdentityRead, out: &mut [u8; OUT_SIZE], at: usi
 }
 
 fn variable_bytes(variable: DeviceVariable) -> [u8; 8] {
-    let bits = u32_bytes(variable.bits);
+    let bits = encode_u32_be(variable.bits);
     [
         variable.device_var_code,
         variable.classification,
@@ -166,4 +167,13 @@ pub(crate) fn read_variables(
 
 pub(crate) fn read_date(mode: Mode, bytes: &[u8], out: &mut [u8; OUT_SIZE], at: usize) -> usize {
     put_date(write_tag_descriptor_date::decode_data(mode, bytes), out, at)
+}
+
+pub(crate) fn read_stored(bytes: &[u8], out: &mut [u8; OUT_SIZE], at: usize) -> usize {
+    let mode = mode_of(byte_at(bytes, 0) == 1);
+    put_date(
+        read_tag_descriptor_date::decode_data(mode, rest(bytes, 1)),
+        out,
+        at,
+    )
 }

@@ -2,14 +2,20 @@
 use crate::addresses::KIND_MAX;
 use crate::bytes::{byte_at, rest, u16_in};
 use crate::case::{CASE_MAX, NO_LETTER};
+use crate::fields::are_fields;
 use line::ROOM;
+use octets::has_bit;
+use response::{DESCRIPTOR_LENGTH, GROUP_SIZE, MAX_DEVICE_VARS, MAX_FIELDS, TAG_LENGTH};
+use types::consts::MAX_DATA_LENGTH;
 
 // No case has a longer buffer, or a longer block.
 pub(crate) const ROOM_MAX: usize = 1024;
 
 // Bytes in front of what has any length: of a frame's data (type, address, command, preamble bytes, room),
-// a typed reading's data (mode, reader, type, command), what a decoder holds (phase, type, long, running
-// check, count, command, data expected), and a block that is fed (room, the byte).
+// a typed reading's data (mode or how, reader, type, command), what a decoder holds (phase, type, long,
+// running check, count, command, data expected), a block that is fed (room, the byte), what a device answers
+// (command, room, two status bytes), a response's groups (extended status and the count too), and fields that
+// are put (room, the place to start at).
 pub(crate) const FRAME_HEAD: usize = 12;
 
 pub(crate) const TYPED_HEAD: usize = 4;
@@ -18,8 +24,31 @@ pub(crate) const DECODER_HEAD: usize = 7;
 
 pub(crate) const FEED_HEAD: usize = 3;
 
-// The highest of the numbers that stand for a mode, for short and long, for a frame's type, for a phase.
+pub(crate) const RESPONSE_HEAD: usize = 5;
+
+pub(crate) const VARIABLES_HEAD: usize = RESPONSE_HEAD + 2;
+
+pub(crate) const PUT_HEAD: usize = 10;
+
+// So many fields are put at most.
+pub(crate) const PUT_MAX: usize = 12;
+
+// The length of a response with an identity, of one with texts (a mode, the tag, the descriptor, the date),
+// and of one with all groups.
+const IDENTITY_LENGTH: usize = RESPONSE_HEAD + 14;
+
+const TEXTS_LENGTH: usize = RESPONSE_HEAD + 1 + TAG_LENGTH + DESCRIPTOR_LENGTH + 3;
+
+const VARIABLES_MAX: usize = VARIABLES_HEAD + MAX_DEVICE_VARS * GROUP_SIZE;
+
+// The bit of how a device reads a request: the frame is handed over in parts.
+pub(crate) const IN_PARTS: u8 = 1;
+
+// The highest of the numbers that stand for a mode, for how a device reads a request, for short and long, for a
+// frame's type, for a phase.
 const MODE_MAX: u8 = 1;
+
+const HOW_MAX: u8 = 3;
 
 const LONG_MAX: u8 = 1;
 
@@ -42,15 +71,43 @@ fn is_frame(bytes: &[u8]) -> bool {
         & (byte_at(bytes, 1) <= KIND_MAX)
 }
 
-fn is_reader(command: u8) -> bool {
-    (command == 9) | (command == 11) | (command == 18)
+// The request of these commands carries no data.
+fn has_no_data(command: u8) -> bool {
+    (command == 0) | (command == 13)
 }
 
-fn is_typed(bytes: &[u8]) -> bool {
+fn is_reader(command: u8) -> bool {
+    has_no_data(command) | (command == 9) | (command == 11) | (command == 18)
+}
+
+fn is_typed(bytes: &[u8], first_max: u8) -> bool {
     is_between(bytes.len(), TYPED_HEAD, CASE_MAX)
-        & (byte_at(bytes, 0) <= MODE_MAX)
+        & (byte_at(bytes, 0) <= first_max)
         & is_reader(byte_at(bytes, 1))
         & (byte_at(bytes, 2) <= TYPE_MAX)
+}
+
+// A whole frame holds no more data than the line allows; its parts may.
+fn is_request(bytes: &[u8]) -> bool {
+    let data = rest(bytes, TYPED_HEAD);
+    is_typed(bytes, HOW_MAX)
+        & (has_bit(byte_at(bytes, 0), IN_PARTS) | (data.len() <= MAX_DATA_LENGTH))
+}
+
+fn is_response(bytes: &[u8]) -> bool {
+    let command = byte_at(bytes, 0);
+    let groups = rest(bytes, VARIABLES_HEAD);
+    match command {
+        0 | 11 => has_room(bytes, 1, IDENTITY_LENGTH, IDENTITY_LENGTH),
+        9 => {
+            has_room(bytes, 1, VARIABLES_HEAD, VARIABLES_MAX) & (groups.len() % GROUP_SIZE == 0)
+        }
+        13 | 18 => {
+            has_room(bytes, 1, TEXTS_LENGTH, TEXTS_LENGTH)
+                & (byte_at(bytes, RESPONSE_HEAD) <= MODE_MAX)
+        }
+        _ => false,
+    }
 }
 
 fn is_decoder(bytes: &[u8]) -> bool {
@@ -79,7 +136,15 @@ fn is_case(letter: u8, bytes: &[u8]) -> bool {
         b'p' | b'P' | b'u' | b'U' => has_room(bytes, 0, 2, CASE_MAX),
         b'o' => has_room(bytes, 0, FEED_HEAD, FEED_HEAD + ROOM_MAX),
         b'e' => is_frame(bytes),
-        b'f' => is_typed(bytes),
+        b'f' => is_typed(bytes, MODE_MAX),
+        b'Q' => is_request(bytes),
+        b'J' => is_between(n, 1, CASE_MAX) & (first <= MODE_MAX),
+        b'O' => has_room(bytes, 1, 3, 3) & has_no_data(first),
+        b'R' => is_response(bytes),
+        b'W' => {
+            has_room(bytes, 0, PUT_HEAD, CASE_MAX) & are_fields(rest(bytes, PUT_HEAD), PUT_MAX)
+        }
+        b'F' => has_room(bytes, 0, 2, CASE_MAX) & are_fields(rest(bytes, 2), MAX_FIELDS),
         b'z' => is_decoder(bytes),
         _ => true,
     }

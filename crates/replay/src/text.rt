@@ -1,18 +1,10 @@
 // Text of an answer: each function here writes from place `at` on and gives back the place behind. Where
 // the output is full nothing is written; main.rt looks behind each answer whether it came to that.
-ghost use Rattle.std.specs.Prelude.{◌≤◌};
-
-use octets::{decimal, hex};
-use refusal::Refusal;
+use octets::{decimal, hex, least};
+use refusal::{Refusal, Written};
 
 // Room for answers.
 pub(crate) const OUT_SIZE: usize = 65536;
-
-pub(crate) fn least(a: usize, b: usize) -> usize
-    ensures { result ≤ b }
-{
-    if a < b { a } else { b }
-}
 
 pub(crate) fn put(character: u8, out: &mut [u8; OUT_SIZE], at: usize) -> usize {
     if at < OUT_SIZE {
@@ -136,4 +128,20 @@ pub(crate) fn put_refusal(refusal: Refusal, out: &mut [u8; OUT_SIZE], at: usize)
     let next = put(b'!', out, at);
     let numbered = put_number(refusal.number() as usize, out, next);
     put_carried(refusal, out, numbered)
+}
+
+// A count or a refusal, and the mark behind it.
+pub(crate) fn put_written(
+    written: Written,
+    mark: u8,
+    out: &mut [u8; OUT_SIZE],
+    at: usize,
+) -> usize {
+    match written {
+        Written::Count(n) => put_marked(n, mark, out, at),
+        Written::Refused(refusal) => {
+            let next = put_refusal(refusal, out, at);
+            put(mark, out, next)
+        }
+    }
 }

@@ -1,11 +1,16 @@
-// The calls that write into a lent buffer, letters w, e, p, P, u, U, q, t, T, d and D: what the case says
-// of the buffer, the call, and what it left there.
+// The calls that write into a lent buffer, letters w, e, p, P, u, U, q, t, T, d, D, O, R, W and F: what the
+// case says of the buffer, the call, and what it left there.
 use crate::addresses::address_in;
 use crate::bytes::{byte_at, eight_in, front, rest, sixteen_in, u16_in};
 use crate::choices::{frame_type_of, is_capital, mode_of};
+use crate::fields::{put_in_turn, write_whole};
+use crate::responses::write_answer;
 use crate::shape::{FRAME_HEAD, ROOM_MAX};
-use crate::text::{OUT_SIZE, put, put_buffer, put_marked, put_refusal};
-use commands::{Mode, read_device_vars, read_unique_id_by_tag, write_tag_descriptor_date};
+use crate::text::{OUT_SIZE, put_buffer, put_written};
+use commands::{
+    Mode, read_device_id, read_device_vars, read_tag_descriptor_date, read_unique_id_by_tag,
+    write_tag_descriptor_date,
+};
 use framing::encode_frame;
 use packed_string::{decode_packed, decode_standard, encode_packed, encode_standard};
 use refusal::Written;
@@ -16,7 +21,8 @@ fn room_in(letter: u8, bytes: &[u8]) -> usize {
     match letter {
         b'w' => byte_at(bytes, 7) as usize,
         b'e' => u16_in(rest(bytes, 10)),
-        b'p' | b'P' | b'u' | b'U' => u16_in(bytes),
+        b'p' | b'P' | b'u' | b'U' | b'W' | b'F' => u16_in(bytes),
+        b'O' | b'R' => u16_in(rest(bytes, 1)),
         _ => byte_at(bytes, 0) as usize,
     }
 }
@@ -77,6 +83,14 @@ fn write_date(mode: Mode, bytes: &[u8], buffer: &mut [u8]) -> Written {
     )
 }
 
+// The request of command 0 or 13.
+fn write_no_data(command: u8, buffer: &mut [u8]) -> Written {
+    if command == 0 {
+        return read_device_id::encode_data(buffer);
+    }
+    read_tag_descriptor_date::encode_data(buffer)
+}
+
 fn write(letter: u8, mode: Mode, bytes: &[u8], buffer: &mut [u8]) -> Written {
     match letter {
         b'w' => write_address(address_in(bytes), buffer),
@@ -85,18 +99,25 @@ fn write(letter: u8, mode: Mode, bytes: &[u8], buffer: &mut [u8]) -> Written {
         b'u' | b'U' => write_unpacked(mode, bytes, buffer),
         b'q' => read_device_vars::encode_data(rest(bytes, 1), buffer),
         b't' | b'T' => write_tag(mode, bytes, buffer),
+        b'O' => write_no_data(byte_at(bytes, 0), buffer),
+        b'R' => write_answer(bytes, buffer),
+        b'F' => write_whole(bytes, buffer),
         _ => write_date(mode, bytes, buffer),
     }
 }
 
-fn put_outcome(written: Written, out: &mut [u8; OUT_SIZE], at: usize) -> usize {
-    match written {
-        Written::Count(n) => put_marked(n, b' ', out, at),
-        Written::Refused(refusal) => {
-            let next = put_refusal(refusal, out, at);
-            put(b' ', out, next)
-        }
+fn put_outcome(
+    letter: u8,
+    bytes: &[u8],
+    buffer: &mut [u8],
+    out: &mut [u8; OUT_SIZE],
+    at: usize,
+) -> usize {
+    if letter == b'W' {
+        return put_in_turn(bytes, buffer, out, at);
     }
+    let written = write(letter, mode_of(is_capital(letter)), bytes, buffer);
+    put_written(written, b' ', out, at)
 }
 
 fn answer_into(
@@ -107,8 +128,7 @@ fn answer_into(
     at: usize,
 ) -> usize {
     fill_pattern(buffer);
-    let written = write(letter, mode_of(is_capital(letter)), bytes, buffer);
-    let next = put_outcome(written, out, at);
+    let next = put_outcome(letter, bytes, buffer, out, at);
     put_buffer(buffer, out, next)
 }
 

@@ -3,7 +3,7 @@
 
 use std::fmt;
 
-use crate::cases::{hex, hex_or_dash, Address, Frame, TagDescriptorDate};
+use crate::cases::{hex, hex_or_dash, Address, Frame, Identity, TagDescriptorDate};
 
 /// A refusal, by document 01's names, with what it carries ('What comes back').
 #[derive(Clone, Copy, Debug, PartialEq)]
@@ -39,21 +39,6 @@ pub enum Ending {
     Stops,
 }
 
-/// Document 01's identity, field by field.
-#[derive(Clone, Debug, PartialEq)]
-pub struct Identity {
-    pub expansion: u8,
-    pub device_type: u16,
-    pub minimum_preambles: u8,
-    pub hart_revision: u8,
-    pub device_revision: u8,
-    pub software_revision: u8,
-    pub hardware_revision: u8,
-    pub signalling: u8,
-    pub flags: u8,
-    pub number: u32,
-}
-
 /// A device variable; the value as the 32 bits of its float.
 #[derive(Clone, Debug, PartialEq)]
 pub struct Variable {
@@ -78,7 +63,7 @@ pub enum Reading {
 pub enum Answer {
     /// To a remark.
     Remark,
-    /// New decoders, or reset ones.
+    /// New decoders, or reset ones; a request that carries nothing to tell.
     Done,
     /// What was heard, each with the place of its byte in the line, and whether the next call stopped.
     Heard {
@@ -89,6 +74,8 @@ pub enum Answer {
     Reachable(bool),
     /// The ending of a call and the whole buffer after it.
     Written(Ending, Vec<u8>),
+    /// Each field's count or refusal with the place reached behind it, and the whole buffer after all.
+    Put(Vec<(Result<usize, Refusal>, u64)>, Vec<u8>),
     /// The bytes used, and the address.
     Address(usize, Address),
     /// Error, malfunction, configuration changed, cold start, more status, out of limits.
@@ -96,6 +83,8 @@ pub enum Answer {
     Identity(Identity),
     Variables(Vec<Variable>),
     Worth(Reading),
+    /// The codes of device variables that a request asks for.
+    Codes(Vec<u8>),
     Tag([u8; 8]),
     TagDescriptorDate(TagDescriptorDate),
     /// The part that is handed back beside the verdict; the empty one where it is refused.
@@ -161,17 +150,6 @@ impl fmt::Display for Refusal {
     }
 }
 
-impl Identity {
-    fn as_bytes(&self) -> Vec<u8> {
-        let mut bytes = vec![self.expansion];
-        bytes.extend(self.device_type.to_be_bytes());
-        bytes.extend([self.minimum_preambles, self.hart_revision, self.device_revision]);
-        bytes.extend([self.software_revision, self.hardware_revision, self.signalling, self.flags]);
-        bytes.extend(self.number.to_be_bytes());
-        bytes
-    }
-}
-
 impl Variable {
     fn as_bytes(&self) -> Vec<u8> {
         let mut bytes = vec![self.code, self.class, self.unit];
@@ -218,6 +196,15 @@ impl fmt::Display for Answer {
                 write!(f, "{refusal} {}", hex_or_dash(room))
             }
             Answer::Written(Ending::Stops, room) => write!(f, "stops {}", hex_or_dash(room)),
+            Answer::Put(fields, room) => {
+                for (outcome, place) in fields {
+                    match outcome {
+                        Ok(count) => write!(f, "{count}@{place} ")?,
+                        Err(refusal) => write!(f, "{refusal}@{place} ")?,
+                    }
+                }
+                f.write_str(&hex_or_dash(room))
+            }
             Answer::Address(used, address) => write!(f, "{used} {}", hex(&address.as_seven())),
             Answer::Status(flags) => {
                 flags.iter().try_for_each(|&flag| f.write_str(if flag { "1" } else { "0" }))
@@ -228,6 +215,7 @@ impl fmt::Display for Answer {
                 write!(f, "{} {}", variables.len(), hex_or_dash(&bytes))
             }
             Answer::Worth(reading) => write!(f, "{reading}"),
+            Answer::Codes(codes) => write!(f, "{} {}", codes.len(), hex_or_dash(codes)),
             Answer::Tag(tag) => f.write_str(&hex(tag)),
             Answer::TagDescriptorDate(fields) => f.write_str(&hex(&fields.as_bytes())),
             Answer::Payload(Ok(part)) => write!(f, ". {}", hex_or_dash(part)),

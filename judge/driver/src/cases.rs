@@ -3,13 +3,21 @@
 
 use std::fmt;
 use std::io::{self, BufRead};
+use std::ops::Range;
 
 /// The most bytes that a case may have; a remark may have more.
 pub const MOST_BYTES: usize = 4096;
 /// The longest buffer or block that a case may hand over.
 pub const MOST_ROOM: usize = 1024;
+/// The most data that a frame holds.
+pub const MOST_DATA: usize = 255;
 /// The bytes of address and data that a decoder holds.
-pub const HELD_BYTES: usize = 5 + 255;
+pub const HELD_BYTES: usize = 5 + MOST_DATA;
+/// The most fields that are put in turn, and the most of a whole response.
+pub const MOST_PUT: usize = 12;
+pub const MOST_FIELDS: usize = 10;
+/// The most groups that a response of command 9 is handed.
+pub const MOST_GROUPS: usize = 8;
 
 /// The three ways to feed a decoder, each with a decoder of its own.
 #[derive(Clone, Copy, Debug, PartialEq)]
@@ -29,6 +37,15 @@ pub enum Mode {
 }
 
 pub const MODES: [Mode; 2] = [Mode::Crate, Mode::Standard];
+
+/// How a device's reader is handed a frame: as one value, or as its type, command and data.
+#[derive(Clone, Copy, Debug, PartialEq)]
+pub enum Handed {
+    Whole,
+    InParts,
+}
+
+pub const HANDED: [Handed; 2] = [Handed::Whole, Handed::InParts];
 
 #[derive(Clone, Copy, Debug, PartialEq)]
 pub enum FrameType {
@@ -61,16 +78,26 @@ pub const PHASES: [Phase; 7] = [
     Phase::Check,
 ];
 
-/// The commands whose responses are read straight from a frame.
+/// The commands that are read straight from a frame, and that a device answers.
 #[derive(Clone, Copy, Debug, PartialEq)]
-pub enum Reader {
-    DeviceVariables,
-    IdentityByTag,
-    TagDescriptorDate,
+pub enum Command {
+    ReadIdentity,
+    ReadVariables,
+    ReadIdentityByTag,
+    ReadTagDescriptorDate,
+    WriteTagDescriptorDate,
 }
 
-pub const READERS: [Reader; 3] =
-    [Reader::DeviceVariables, Reader::IdentityByTag, Reader::TagDescriptorDate];
+pub const COMMANDS: [Command; 5] = [
+    Command::ReadIdentity,
+    Command::ReadVariables,
+    Command::ReadIdentityByTag,
+    Command::ReadTagDescriptorDate,
+    Command::WriteTagDescriptorDate,
+];
+
+/// Those whose requests carry no data.
+pub const WITHOUT_DATA: [Command; 2] = [Command::ReadIdentity, Command::ReadTagDescriptorDate];
 
 /// An address. A short one has a polling address; a long one a manufacturer, a device type and a
 /// device number. Fields may be larger than the wire has bits for.
@@ -94,6 +121,45 @@ pub struct TagDescriptorDate {
     pub descriptor: [u8; 16],
     /// Day, month, year.
     pub date: [u8; 3],
+}
+
+/// Document 01's identity, field by field. Fields may be larger than the wire has bits for.
+#[derive(Clone, Debug, PartialEq)]
+pub struct Identity {
+    pub expansion: u8,
+    pub device_type: u16,
+    pub minimum_preambles: u8,
+    pub hart_revision: u8,
+    pub device_revision: u8,
+    pub software_revision: u8,
+    pub hardware_revision: u8,
+    pub signalling: u8,
+    pub flags: u8,
+    pub number: u32,
+}
+
+/// What a device answers behind its two status bytes.
+#[derive(Clone, Debug, PartialEq)]
+pub enum Response {
+    /// To command 0 or 11.
+    Identity(Identity),
+    /// To command 9: the first so many of eight groups, which are these and zeros behind them.
+    Variables { extended: u8, count: u8, groups: Vec<[u8; 8]> },
+    /// To command 13 or 18.
+    Text(Mode, TagDescriptorDate),
+}
+
+/// A part of a response, as it is put at a place.
+#[derive(Clone, Debug, PartialEq)]
+pub enum Field {
+    Status([u8; 2]),
+    Byte(u8),
+    Group([u8; 8]),
+    /// The 12 bytes as they stand on the line.
+    Identity([u8; 12]),
+    Tag(Mode, [u8; 8]),
+    Descriptor(Mode, [u8; 16]),
+    Date([u8; 3]),
 }
 
 /// The value that a decoder is to have. Fields that its phase does not have mean nothing.
@@ -121,7 +187,7 @@ pub struct Carrier {
     pub data: Vec<u8>,
 }
 
-/// One call, or for `Feed` one call for each byte.
+/// One call, or for `Feed` one call for each byte, and for `PutFields` for each field.
 #[derive(Clone, Debug, PartialEq)]
 pub enum Case {
     /// No call: a line for people.
@@ -174,7 +240,32 @@ pub enum Case {
     },
     ReadTagDescriptorDate(Mode, Vec<u8>),
     Payload(FrameType, Vec<u8>),
-    ReadFrame(Mode, Reader, Carrier),
+    ReadFrame(Mode, Command, Carrier),
+    /// The response of command 0.
+    ReadIdentity(Vec<u8>),
+    /// The response of command 13.
+    ReadStoredText(Mode, Vec<u8>),
+    /// The request of command 0 or 13.
+    WriteNoData(Command, usize),
+    /// A request as a device reads it.
+    ReadRequest(Handed, Mode, Command, Carrier),
+    WriteResponse {
+        command: Command,
+        room: usize,
+        status: [u8; 2],
+        response: Response,
+    },
+    /// Fields one after the other, from this place on.
+    PutFields {
+        room: usize,
+        start: u64,
+        fields: Vec<Field>,
+    },
+    /// A whole response of these fields.
+    WriteFields {
+        room: usize,
+        fields: Vec<Field>,
+    },
     /// The C call for one byte, over a block and a room of the case's own.
     FeedBlock {
         room: usize,
@@ -242,17 +333,19 @@ impl Phase {
     }
 }
 
-impl Reader {
-    pub fn command(self) -> u8 {
+impl Command {
+    pub fn number(self) -> u8 {
         match self {
-            Reader::DeviceVariables => 9,
-            Reader::IdentityByTag => 11,
-            Reader::TagDescriptorDate => 18,
+            Command::ReadIdentity => 0,
+            Command::ReadVariables => 9,
+            Command::ReadIdentityByTag => 11,
+            Command::ReadTagDescriptorDate => 13,
+            Command::WriteTagDescriptorDate => 18,
         }
     }
 
-    fn from_command(command: u8) -> Option<Reader> {
-        READERS.into_iter().find(|reader| reader.command() == command)
+    fn from_number(number: u8) -> Option<Command> {
+        COMMANDS.into_iter().find(|command| command.number() == number)
     }
 }
 
@@ -300,11 +393,64 @@ impl TagDescriptorDate {
     }
 }
 
+impl Identity {
+    /// The 14 bytes of cases and answers, in which every field is whole.
+    pub fn as_bytes(&self) -> Vec<u8> {
+        let mut bytes = vec![self.expansion];
+        bytes.extend(self.device_type.to_be_bytes());
+        bytes.extend([self.minimum_preambles, self.hart_revision, self.device_revision]);
+        bytes.extend([self.software_revision, self.hardware_revision, self.signalling, self.flags]);
+        bytes.extend(self.number.to_be_bytes());
+        bytes
+    }
+}
+
+impl Response {
+    fn as_bytes(&self) -> Vec<u8> {
+        match self {
+            Response::Identity(identity) => identity.as_bytes(),
+            Response::Variables { extended, count, groups } => {
+                [&[*extended, *count], &groups.concat()[..]].concat()
+            }
+            Response::Text(mode, fields) => [&[*mode as u8], &fields.as_bytes()[..]].concat(),
+        }
+    }
+}
+
+impl Field {
+    /// A kind byte, and the field's own.
+    fn as_bytes(&self) -> Vec<u8> {
+        let in_mode = |first: u8, mode: Mode| first + mode as u8;
+        let (kind, bytes) = match self {
+            Field::Status(bytes) => (0, &bytes[..]),
+            Field::Byte(byte) => (1, std::slice::from_ref(byte)),
+            Field::Group(bytes) => (2, &bytes[..]),
+            Field::Identity(bytes) => (3, &bytes[..]),
+            Field::Tag(mode, bytes) => (in_mode(4, *mode), &bytes[..]),
+            Field::Descriptor(mode, bytes) => (in_mode(6, *mode), &bytes[..]),
+            Field::Date(bytes) => (8, &bytes[..]),
+        };
+        [&[kind], bytes].concat()
+    }
+}
+
+fn bytes_of_fields(fields: &[Field]) -> Vec<u8> {
+    fields.iter().flat_map(Field::as_bytes).collect()
+}
+
 impl DecoderValue {
     fn as_bytes(&self) -> Vec<u8> {
         let type_and_long = [self.frame_type.number(), u8::from(self.long)];
         let numbers = [self.check, self.count, self.command, self.expected];
         [&[self.phase as u8], &type_and_long[..], &numbers, &self.bytes].concat()
+    }
+}
+
+impl Carrier {
+    /// Behind the case's first byte, and the reader's command.
+    fn as_bytes(&self, first: u8, reader: Command) -> Vec<u8> {
+        let head = [first, reader.number(), self.frame_type.number(), self.command];
+        [&head, &self.data[..]].concat()
     }
 }
 
@@ -345,12 +491,90 @@ impl Fields {
         self.flag().map(|standard| if standard { Mode::Standard } else { Mode::Crate })
     }
 
+    /// Both in one byte: bit 1, and the mode below it.
+    fn handed_and_mode(&mut self) -> Option<(Handed, Mode)> {
+        let byte = usize::from(self.byte()?);
+        Some((*HANDED.get(byte / 2)?, MODES[byte % 2]))
+    }
+
     fn frame_type(&mut self) -> Option<FrameType> {
         FrameType::from_number(self.byte()?)
     }
 
+    fn command(&mut self) -> Option<Command> {
+        Command::from_number(self.byte()?)
+    }
+
+    fn carrier(&mut self) -> Option<Carrier> {
+        let frame_type = self.frame_type()?;
+        Some(Carrier { frame_type, command: self.byte()?, data: self.rest() })
+    }
+
     fn address(&mut self) -> Option<Address> {
         Address::from_seven(self.bytes()?)
+    }
+
+    fn tag_descriptor_date(&mut self) -> Option<TagDescriptorDate> {
+        Some(TagDescriptorDate {
+            tag: self.bytes()?,
+            descriptor: self.bytes()?,
+            date: self.bytes()?,
+        })
+    }
+
+    fn identity(&mut self) -> Option<Identity> {
+        Some(Identity {
+            expansion: self.byte()?,
+            device_type: u16::from_be_bytes(self.bytes()?),
+            minimum_preambles: self.byte()?,
+            hart_revision: self.byte()?,
+            device_revision: self.byte()?,
+            software_revision: self.byte()?,
+            hardware_revision: self.byte()?,
+            signalling: self.byte()?,
+            flags: self.byte()?,
+            number: u32::from_be_bytes(self.bytes()?),
+        })
+    }
+
+    fn response(&mut self, command: Command) -> Option<Response> {
+        Some(match command {
+            Command::ReadIdentity | Command::ReadIdentityByTag => {
+                Response::Identity(self.identity()?)
+            }
+            Command::ReadVariables => Response::Variables {
+                extended: self.byte()?,
+                count: self.byte()?,
+                groups: self.up_to(MOST_GROUPS, Fields::bytes)?,
+            },
+            Command::ReadTagDescriptorDate | Command::WriteTagDescriptorDate => {
+                Response::Text(self.mode()?, self.tag_descriptor_date()?)
+            }
+        })
+    }
+
+    fn field(&mut self) -> Option<Field> {
+        Some(match self.byte()? {
+            0 => Field::Status(self.bytes()?),
+            1 => Field::Byte(self.byte()?),
+            2 => Field::Group(self.bytes()?),
+            3 => Field::Identity(self.bytes()?),
+            4 => Field::Tag(Mode::Crate, self.bytes()?),
+            5 => Field::Tag(Mode::Standard, self.bytes()?),
+            6 => Field::Descriptor(Mode::Crate, self.bytes()?),
+            7 => Field::Descriptor(Mode::Standard, self.bytes()?),
+            8 => Field::Date(self.bytes()?),
+            _ => return None,
+        })
+    }
+
+    /// All that is left, as at most so many.
+    fn up_to<T>(&mut self, most: usize, next: fn(&mut Fields) -> Option<T>) -> Option<Vec<T>> {
+        let mut all = Vec::new();
+        while self.0.len() > 0 {
+            all.push(next(self)?);
+        }
+        (all.len() <= most).then_some(all)
     }
 
     fn rest(&mut self) -> Vec<u8> {
@@ -384,6 +608,27 @@ pub fn lines_of(mut text: &[u8]) -> Vec<Vec<u8>> {
 pub fn letter_and_bytes(line: &[u8]) -> Option<(u8, Vec<u8>)> {
     let (&letter, digits) = line.split_first()?;
     Some((letter, bytes_of(digits)?))
+}
+
+/// Where the fields of a response stand among a line's bytes, and the groups of command 9's.
+pub fn parts_of(letter: u8, bytes: &[u8]) -> Vec<Range<usize>> {
+    let in_turn = |start: usize, lengths: Vec<usize>| {
+        let parts = lengths.into_iter().scan(start, |end, length| {
+            *end += length;
+            Some(*end - length..*end)
+        });
+        parts.collect()
+    };
+    match case_of(letter, &mut Fields(Vec::from(bytes).into_iter())) {
+        Some(Case::PutFields { fields, .. }) | Some(Case::WriteFields { fields, .. }) => {
+            let lengths: Vec<usize> = fields.iter().map(|field| field.as_bytes().len()).collect();
+            in_turn(bytes.len() - lengths.iter().sum::<usize>(), lengths)
+        }
+        Some(Case::WriteResponse { response: Response::Variables { groups, .. }, .. }) => {
+            in_turn(bytes.len() - 8 * groups.len(), vec![8; groups.len()])
+        }
+        _ => Vec::new(),
+    }
 }
 
 /// The case that a line says, if it says one.
@@ -439,21 +684,40 @@ fn case_of(letter: u8, fields: &mut Fields) -> Option<Case> {
         b'd' | b'D' => Case::WriteTagDescriptorDate {
             mode,
             room: fields.short_room()?,
-            fields: TagDescriptorDate {
-                tag: fields.bytes()?,
-                descriptor: fields.bytes()?,
-                date: fields.bytes()?,
-            },
+            fields: fields.tag_descriptor_date()?,
         },
         b'h' | b'H' => Case::ReadTagDescriptorDate(mode, fields.rest()),
         b'y' => Case::Payload(fields.frame_type()?, fields.rest()),
-        b'f' => {
-            let mode = fields.mode()?;
-            let reader = Reader::from_command(fields.byte()?)?;
-            let frame_type = fields.frame_type()?;
-            let command = fields.byte()?;
-            Case::ReadFrame(mode, reader, Carrier { frame_type, command, data: fields.rest() })
+        b'f' => Case::ReadFrame(fields.mode()?, fields.command()?, fields.carrier()?),
+        b'I' => Case::ReadIdentity(fields.rest()),
+        b'J' => Case::ReadStoredText(fields.mode()?, fields.rest()),
+        b'O' => {
+            let command = fields.command().filter(|command| WITHOUT_DATA.contains(command))?;
+            Case::WriteNoData(command, fields.room()?)
         }
+        b'Q' => {
+            let (handed, mode) = fields.handed_and_mode()?;
+            let (reader, carrier) = (fields.command()?, fields.carrier()?);
+            if handed == Handed::Whole && carrier.data.len() > MOST_DATA {
+                return None;
+            }
+            Case::ReadRequest(handed, mode, reader, carrier)
+        }
+        b'R' => {
+            let command = fields.command()?;
+            let room = fields.room()?;
+            let status = fields.bytes()?;
+            Case::WriteResponse { command, room, status, response: fields.response(command)? }
+        }
+        b'W' => Case::PutFields {
+            room: fields.room()?,
+            start: u64::from_be_bytes(fields.bytes()?),
+            fields: fields.up_to(MOST_PUT, Fields::field)?,
+        },
+        b'F' => Case::WriteFields {
+            room: fields.room()?,
+            fields: fields.up_to(MOST_FIELDS, Fields::field)?,
+        },
         b'o' => Case::FeedBlock {
             room: fields.room()?,
             byte: fields.byte()?,
@@ -506,6 +770,13 @@ impl Case {
             Case::ReadTagDescriptorDate(mode, _) => mode.letter('h'),
             Case::Payload(..) => 'y',
             Case::ReadFrame(..) => 'f',
+            Case::ReadIdentity(_) => 'I',
+            Case::ReadStoredText(..) => 'J',
+            Case::WriteNoData(..) => 'O',
+            Case::ReadRequest(..) => 'Q',
+            Case::WriteResponse { .. } => 'R',
+            Case::PutFields { .. } => 'W',
+            Case::WriteFields { .. } => 'F',
             Case::FeedBlock { .. } => 'o',
             Case::ClearBlock(_) => 'c',
             Case::Constants => 'x',
@@ -525,6 +796,7 @@ impl Case {
             | Case::ReadVariables(_, bytes)
             | Case::ReadIdentityByTag(bytes)
             | Case::ReadTagDescriptorDate(_, bytes)
+            | Case::ReadIdentity(bytes)
             | Case::ClearBlock(bytes)
             | Case::Dump(bytes) => bytes.clone(),
             Case::Become(value) => value.as_bytes(),
@@ -550,9 +822,20 @@ impl Case {
                 [&[*room as u8], &fields.as_bytes()[..]].concat()
             }
             Case::Payload(frame_type, data) => [&[frame_type.number()], &data[..]].concat(),
-            Case::ReadFrame(mode, reader, Carrier { frame_type, command, data }) => {
-                let head = [*mode as u8, reader.command(), frame_type.number(), *command];
-                [&head, &data[..]].concat()
+            Case::ReadFrame(mode, reader, carrier) => carrier.as_bytes(*mode as u8, *reader),
+            Case::ReadRequest(handed, mode, reader, carrier) => {
+                carrier.as_bytes(2 * *handed as u8 + *mode as u8, *reader)
+            }
+            Case::ReadStoredText(mode, data) => [&[*mode as u8], &data[..]].concat(),
+            Case::WriteNoData(command, room) => [&[command.number()], &word(*room)[..]].concat(),
+            Case::WriteResponse { command, room, status, response } => {
+                [&[command.number()], &word(*room)[..], status, &response.as_bytes()].concat()
+            }
+            Case::PutFields { room, start, fields } => {
+                [&word(*room)[..], &start.to_be_bytes(), &bytes_of_fields(fields)].concat()
+            }
+            Case::WriteFields { room, fields } => {
+                [&word(*room)[..], &bytes_of_fields(fields)].concat()
             }
             Case::FeedBlock { room, byte, block } => {
                 [&word(*room)[..], &[*byte], &block[..]].concat()

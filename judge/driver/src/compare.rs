@@ -7,10 +7,10 @@
 use std::collections::BTreeMap;
 use std::io::{self, BufRead};
 
-use crate::cases::{next_line, parse, Case, Way};
+use crate::cases::{next_line, parse, Case, Mode, Way};
 
-/// The letters of calls that document 01 adds: the Rust has none of them.
-const ADDED: &str = "PUTKDHGmyfzocAE";
+/// The letters of calls that documents 01 and 02 add: the Rust has none of them.
+const ADDED: &str = "PUTKDHGmyfzocAEQRWF";
 
 /// What is held against what.
 #[derive(Clone, Copy, Debug, PartialEq, Eq, PartialOrd, Ord)]
@@ -193,10 +193,11 @@ impl Answers<'_> {
     }
 }
 
-/// A fed byte is a call, and so is every other case but a remark.
+/// A fed byte is a call, and so is a field that is put, and every other case but a remark.
 fn calls_of(case: Option<&Case>) -> usize {
     match case {
         Some(Case::Feed(_, bytes)) => bytes.len(),
+        Some(Case::PutFields { fields, .. }) => fields.len(),
         None | Some(Case::Remark) => 0,
         Some(_) => 1,
     }
@@ -235,12 +236,15 @@ fn right_until_it_stops(rules: Option<&[u8]>, debug: Option<&[u8]>) -> bool {
     rules.starts_with(&debug[..heard])
 }
 
-/// Whether the last of these lines is a call that the Rust does not have, or feeds a decoder that was
-/// given a value, which it cannot be there.
+/// Whether the last of these lines is a call that the Rust does not have, one of `J` in standard mode
+/// too, or feeds a decoder that was given a value, which it cannot be there.
 fn has_no_call(lines: &[Vec<u8>]) -> bool {
     let letter = letter_of(lines);
     let is_value = |line: &Vec<u8>| line.first() == Some(&b'z');
-    ADDED.contains(letter) || (is_feed(letter) && lines.iter().any(is_value))
+    let last = lines.last().and_then(|line| parse(line));
+    ADDED.contains(letter)
+        || matches!(last, Some(Case::ReadStoredText(Mode::Standard, _)))
+        || (is_feed(letter) && lines.iter().any(is_value))
 }
 
 /// Where the Rust is known to stop: an address that does not fit, more codes than its types take, and

@@ -2,9 +2,12 @@
 
 use std::panic::{self, AssertUnwindSafe};
 
-use hart_protocol::commands::read_device_id::ReadDeviceIdResponse;
+use hart_protocol::commands::read_device_id::{ReadDeviceIdRequest, ReadDeviceIdResponse};
 use hart_protocol::commands::read_device_vars::{
     DeviceVariable, ReadDeviceVarsRequest, ReadDeviceVarsResponse,
+};
+use hart_protocol::commands::read_tag_descriptor_date::{
+    ReadTagDescriptorDateRequest, ReadTagDescriptorDateResponse,
 };
 use hart_protocol::commands::read_unique_id_by_tag::{
     decode_tag, ReadUniqueIdByTagRequest, ReadUniqueIdByTagResponse,
@@ -17,8 +20,10 @@ use hart_protocol::consts;
 use hart_protocol::packed_string::{decode_packed, encode_packed};
 use hart_protocol::{encode_frame, DecodeError, Decoder, EncodeError, MasterRole, ResponseStatus};
 
-use crate::answers::{Answer, Ending, Heard, Identity, Refusal, Variable};
-use crate::cases::{fresh_room, Address, Case, Frame, FrameType, Mode, TagDescriptorDate, Way};
+use crate::answers::{Answer, Ending, Heard, Refusal, Variable};
+use crate::cases::{
+    fresh_room, Address, Case, Command, Frame, FrameType, Identity, Mode, TagDescriptorDate, Way,
+};
 
 /// The identity in a response of command 0 or 11: two types with the same fields.
 macro_rules! identity_of {
@@ -34,6 +39,17 @@ macro_rules! identity_of {
             signalling: $response.physical_signaling,
             flags: $response.flags,
             number: $response.device_id,
+        }
+    };
+}
+
+/// The fields in a response of command 13 or 18: two types with the same fields.
+macro_rules! tag_descriptor_date_of {
+    ($response:expr) => {
+        TagDescriptorDate {
+            tag: $response.tag,
+            descriptor: $response.descriptor,
+            date: [$response.day, $response.month, $response.year],
         }
     };
 }
@@ -88,7 +104,7 @@ impl Crate {
                 written(*room, |buf| Ok(decode_packed(packed, buf)))
             }
             Case::Status(bytes) => status(*bytes),
-            Case::Identity(data) => {
+            Case::Identity(data) | Case::ReadIdentity(data) => {
                 read(data, |r: ReadDeviceIdResponse| Answer::Identity(identity_of!(r)))
             }
             Case::WriteCodes { room, codes } => write_codes(*room, codes),
@@ -114,12 +130,19 @@ impl Crate {
             }
             Case::ReadTagDescriptorDate(Mode::Crate, data) => {
                 read(data, |r: WriteTagDescriptorDateResponse| {
-                    Answer::TagDescriptorDate(TagDescriptorDate {
-                        tag: r.tag,
-                        descriptor: r.descriptor,
-                        date: [r.day, r.month, r.year],
-                    })
+                    Answer::TagDescriptorDate(tag_descriptor_date_of!(r))
                 })
+            }
+            Case::ReadStoredText(Mode::Crate, data) => {
+                read(data, |r: ReadTagDescriptorDateResponse| {
+                    Answer::TagDescriptorDate(tag_descriptor_date_of!(r))
+                })
+            }
+            Case::WriteNoData(Command::ReadIdentity, room) => {
+                written(*room, |buf| ReadDeviceIdRequest.encode_data(buf))
+            }
+            Case::WriteNoData(Command::ReadTagDescriptorDate, room) => {
+                written(*room, |buf| ReadTagDescriptorDateRequest.encode_data(buf))
             }
             Case::Constants => Answer::Constants(constants()),
             // Nobody can give the crate's decoder a value: the two are gone.
@@ -128,7 +151,7 @@ impl Crate {
                 self.decoders[Way::Lent as usize] = None;
                 Answer::Stops
             }
-            // What document 01 adds, of which the crate has no call.
+            // What documents 01 and 02 add, of which the crate has no call.
             Case::Pack { mode: Mode::Standard, .. }
             | Case::Unpack { mode: Mode::Standard, .. }
             | Case::ReadVariables(Mode::Standard, _)
@@ -139,6 +162,12 @@ impl Crate {
             | Case::ReadTagDescriptorDate(Mode::Standard, _)
             | Case::Payload(..)
             | Case::ReadFrame(..)
+            | Case::ReadStoredText(Mode::Standard, _)
+            | Case::WriteNoData(..)
+            | Case::ReadRequest(..)
+            | Case::WriteResponse { .. }
+            | Case::PutFields { .. }
+            | Case::WriteFields { .. }
             | Case::FeedBlock { .. }
             | Case::ClearBlock(_)
             | Case::Dump(_)

@@ -1,8 +1,9 @@
 //! Cases that are always the same. `fixed` is each boundary of document 01 and the values beside it,
 //! the list that is kept with the program `replay`; `exhaustive` is every short input of some calls.
-//! What document 01 adds to the Rust is in the files of the folder.
+//! What documents 01 and 02 add to the Rust is in the files of the folder.
 
 mod carried;
+mod device;
 mod dumped;
 pub mod examples;
 mod host;
@@ -36,6 +37,7 @@ pub fn fixed(sheet: &mut Sheet) {
     command_18(sheet);
     standard::commands(sheet);
     carried::carried(sheet);
+    device::device(sheet);
     pieces(sheet);
     frames_heard(sheet);
     long_preambles(sheet);
@@ -54,6 +56,7 @@ pub fn exhaustive(sheet: &mut Sheet) {
     every_frame_room(sheet);
     every_short_run(sheet);
     carried::every_reading(sheet);
+    device::every_place(sheet);
     host::every_flipped_block(sheet);
     dumped::far_places(sheet);
 }

@@ -2,6 +2,7 @@
 //! does to frames.
 
 mod added;
+mod device;
 
 use crate::cases::{
     Address, Case, Frame, Mode, TagDescriptorDate, FRAME_TYPES, MODES, MOST_BYTES, MOST_ROOM,
@@ -78,7 +79,7 @@ fn random_frame(random: &mut Random, data_length: usize) -> Frame {
 
 fn random_case(random: &mut Random) -> Case {
     let mode = random.one_of(&MODES);
-    match random.below(18) {
+    match random.below(26) {
         0 => {
             let long = random.flag();
             let address = random_address(random, long);
@@ -129,7 +130,8 @@ fn random_case(random: &mut Random) -> Case {
             let length = random.near(21);
             Case::ReadTagDescriptorDate(mode, random.bytes(length))
         }
-        _ => added::random_case(random),
+        14..=17 => added::random_case(random),
+        _ => device::random_case(random),
     }
 }
 

@@ -1,8 +1,9 @@
-//! The answers of document 01, written from its text alone: a third opinion beside the Rust's code
-//! and ours. It is made to be read beside 01, not to be fast. A run of bytes is cut into pieces as
-//! 'How a run of bytes is cut' says; no byte machine stands behind it.
+//! The answers of document 01, and of what document 02 adds, written from their text alone: a third
+//! opinion beside the Rust's code and ours. It is made to be read beside them, not to be fast. A run of
+//! bytes is cut into pieces as 'How a run of bytes is cut' says; no byte machine stands behind it.
 
 mod commands;
+mod device;
 mod dump;
 mod host;
 mod line;
@@ -82,7 +83,9 @@ impl Rules {
             Case::Status([first, second]) => {
                 Answer::Status(commands::status_flags(*first, *second))
             }
-            Case::Identity(data) | Case::ReadIdentityByTag(data) => commands::identity(data),
+            Case::Identity(data) | Case::ReadIdentityByTag(data) | Case::ReadIdentity(data) => {
+                commands::identity(data)
+            }
             Case::WriteCodes { room, codes } => {
                 write(*room, at_most(8, codes).map(|()| codes.clone()))
             }
@@ -94,11 +97,22 @@ impl Rules {
                 let text = [&fields.tag[..], &fields.descriptor].concat();
                 write_text(*mode, *room, &text, &fields.date)
             }
-            Case::ReadTagDescriptorDate(mode, data) => commands::tag_descriptor_date(*mode, data),
+            Case::ReadTagDescriptorDate(mode, data) | Case::ReadStoredText(mode, data) => {
+                commands::tag_descriptor_date(*mode, data)
+            }
             Case::Payload(frame_type, data) => {
                 Answer::Payload(commands::payload(*frame_type, data).map(<[u8]>::to_vec))
             }
             Case::ReadFrame(mode, reader, carrier) => commands::typed(*mode, *reader, carrier),
+            // Requests 0 and 13 carry no data.
+            Case::WriteNoData(_, room) => write(*room, Ok(Vec::new())),
+            // The document knows one reading, however the frame is handed over.
+            Case::ReadRequest(_, mode, reader, carrier) => device::request(*mode, *reader, carrier),
+            Case::WriteResponse { room, status, response, .. } => {
+                device::write_response(*room, *status, response)
+            }
+            Case::PutFields { room, start, fields } => device::put_fields(*room, *start, fields),
+            Case::WriteFields { room, fields } => device::write_fields(*room, fields),
             Case::FeedBlock { room, byte, block } => host::feed(block, *room, *byte),
             Case::ClearBlock(block) => host::clear(block),
             Case::Constants => Answer::Constants(

@@ -29,7 +29,7 @@ struct Plant {
     found_by: Check,
 }
 
-const PLANTS: [Plant; 53] = [
+const PLANTS: [Plant; 93] = [
     ours("a frame with another last byte", "v", |answer| {
         in_frame(answer, last_digit_turned(answer))
     }),
@@ -82,6 +82,60 @@ const PLANTS: [Plant; 53] = [
     ours("another constant", "x", |answer| replaced(answer, "FF 05", "FF 04")),
     ours("a line of the dump one place late", "A", |answer| replaced(answer, "F 9", "F 10")),
     ours("another total of the dump", "E", last_digit_turned),
+    ours("another identity of command 0", "I", last_digit_turned),
+    ours("an identity of 11 bytes that is read", "I", |answer| {
+        replaced(answer, "!3", &"00".repeat(14))
+    }),
+    ours("another date of command 13", "J", last_digit_turned),
+    ours("the modes of command 13 exchanged", "J", |answer| replaced(answer, "4040", "2020")),
+    ours("a request without data that writes", "O", |answer| replaced(answer, "0 A0", "0 00")),
+    ours("a request without data that is refused", "O", |answer| replaced(answer, "0 -", "!2 -")),
+    ours("an empty request that is too short", "Q", |answer| replaced(answer, ".", "!3")),
+    ours("3 before 6 in a request", "Q", |answer| replaced(answer, "!6", "!3")),
+    ours("a response taken for a request", "Q", |answer| replaced(answer, "!6", ".")),
+    ours("a ninth code", "Q", |answer| replaced(answer, "8 ", "9 ")),
+    ours("another code", "Q", |answer| done(answer, last_digit_turned(answer))),
+    ours("no codes that are taken", "Q", |answer| replaced(answer, "!3", "0 -")),
+    ours("high bits that are kept", "R", |answer| {
+        replaced(answer, "14 0000FE260A0505010209", "14 0000FE260A0505010211")
+    }),
+    ours("a response one byte short", "R", |answer| replaced(answer, "11 ", "10 ")),
+    ours("a ninth group", "R", |answer| replaced(answer, "!1", "!2")),
+    ours("a response without its status", "R", |answer| replaced(answer, "14 0000FE", "12 FE")),
+    ours("a refused response that wrote its status", "R", |answer| {
+        replaced(answer, "!7:0007 A0A1", "!7:0007 0000")
+    }),
+    ours("the place in the descriptor alone", "R", |answer| replaced(answer, "!7:0017", "!7:000F")),
+    ours("7 before 2 in a response", "R", |answer| replaced(answer, "!2", "!7:0000")),
+    ours("a byte past a response", "R", |answer| done(answer, last_digit_turned(answer))),
+    ours("a refused field that moves on", "W", |answer| replaced(answer, "!2@0", "!2@2")),
+    ours("a field that moves no place", "W", |answer| replaced(answer, "2@2", "2@0")),
+    ours("a refused field that wrote", "W", |answer| replaced(answer, "!2@0 A0", "!2@0 00")),
+    ours("a later field's refusal", "W", |answer| {
+        answer.contains(" !7:0004@2").then(|| answer.replacen(" !7:0004@2", " !7:0005@2", 1))
+    }),
+    ours("a field past place 255", "W", |answer| replaced(answer, "!1@244", "12@256")),
+    ours("2 before 1 of a late field", "W", |answer| replaced(answer, "!1@60", "!2@60")),
+    ours("a place that runs over", "W", |answer| {
+        replaced(answer, "!1@18446744073709551615", "1@0")
+    }),
+    ours("a field too few", "W", |answer| replaced(answer, "2@2 1@3 ", "2@2 ")),
+    ours("a buffer that is left out", "W", |answer| replaced(answer, "-", "")),
+    ours("a status alone that is refused", "F", |answer| replaced(answer, "2 0500", "!2 0500")),
+    ours("a late group that is too small", "F", |answer| replaced(answer, "!1", "!2")),
+    ours("the place in the last text alone", "F", |answer| replaced(answer, "!7:0008", "!7:0000")),
+    ours("a refused response that left fields behind", "F", |answer| {
+        replaced(answer, "!7:0008 A0", "!7:0008 D2")
+    }),
+    ours("another last byte of fields", "F", |answer| done(answer, last_digit_turned(answer))),
+    debug("another identity of the debug Rust", "I", last_digit_turned),
+    debug("another date of the debug Rust", "J", last_digit_turned),
+    debug("a request of the debug Rust that writes", "O", |answer| {
+        replaced(answer, "0 A0", "0 00")
+    }),
+    debug("a stop at the response of command 0", "I", |_| Some("stops".into())),
+    debug("a stop at a request without data", "O", |_| Some("stops".into())),
+    release("another identity of the release Rust", "I", last_digit_turned),
     debug("another answer of the debug Rust", "d", last_digit_turned),
     debug("another frame before it stops", "v", |answer| {
         in_frame(answer, last_digit_turned(answer).map(|answer| answer + " stops"))
@@ -206,9 +260,9 @@ fn held_against_hand() -> (usize, Vec<String>) {
     (by_hand, other)
 }
 
-/// Spaces are for the reader, but in the dump's lines, which are to the letter.
+/// Spaces are for the reader, but in the dump's lines and between fields, which are to the letter.
 fn is_as_by_hand(case: &str, answer: &str, wanted: &str) -> bool {
-    if case.starts_with(['A', 'E']) {
+    if case.starts_with(['A', 'E', 'W']) {
         answer == wanted
     } else {
         answer.replace(' ', "") == wanted.replace(' ', "")
@@ -233,7 +287,7 @@ fn release_is_set_beside() -> bool {
 
 /// The cases of which document 01 is the only judge: the Rust has no such calls, and its decoders are
 /// gone behind a value, but for the one of the block.
-const ONLY_RULES: &str = "n\nP 000354455354\nz 01000000050000\nv 03\nl 02\nb 03\n";
+const ONLY_RULES: &str = "n\nP 000354455354\nz 01000000050000\nv 03\nl 02\nb 03\nJ 01\nJ 00\n";
 
 fn only_rules_tally(debug: &[u8], release: &[u8]) -> Tally {
     let right = text_of(&rules::answers(ONLY_RULES.as_bytes()));
@@ -244,21 +298,23 @@ fn only_rules_tally(debug: &[u8], release: &[u8]) -> Tally {
 
 /// Lines of calls that the Rust does not have are no failures, and are counted by letter.
 fn only_rules_are_counted() -> bool {
-    let rust = b".\nstops\nstops\nstops\nstops\n.\n";
+    let rust = b".\nstops\nstops\nstops\nstops\n.\nstops\n!3\n";
     let tally = only_rules_tally(rust, rust);
     let counted: Vec<(char, usize)> = tally.only_rules.into_iter().collect();
     tally.seen.is_empty()
         && tally.stopped.is_empty()
-        && counted == [('P', 1), ('l', 1), ('v', 1), ('z', 1)]
+        && counted == [('J', 1), ('P', 1), ('l', 1), ('v', 1), ('z', 1)]
 }
 
-/// There the two builds of the Rust stop alike; the block's decoder has no reason to.
+/// There the two builds of the Rust stop alike; the block's decoder and crate mode have no reason to.
 fn odd_stops_are_found() -> bool {
-    let rust = b".\nstops\nstops\nstops\nstops\n.\n";
-    let release_answers = b".\n3 5054D4\nstops\nstops\nstops\n.\n";
-    let block_stops = b".\nstops\nstops\nstops\nstops\nstops\n";
+    let rust = b".\nstops\nstops\nstops\nstops\n.\nstops\n!3\n";
+    let release_answers = b".\n3 5054D4\nstops\nstops\nstops\n.\nstops\n!3\n";
+    let block_stops = b".\nstops\nstops\nstops\nstops\nstops\nstops\n!3\n";
+    let crate_mode_stops = b".\nstops\nstops\nstops\nstops\n.\nstops\nstops\n";
     only_rules_tally(rust, release_answers).count(Check::ReleaseIsDebug) == 1
         && only_rules_tally(block_stops, block_stops).count(Check::DebugIsRules) == 1
+        && only_rules_tally(crate_mode_stops, crate_mode_stops).count(Check::DebugIsRules) == 1
 }
 
 /// What shrinking makes of a large input, for a program that never says a word of this letter's.
@@ -331,6 +387,16 @@ pub fn run() -> ExitCode {
         smallest_unheard('v', "another refusal", &unreachable) == "z 01 00*6, v 00",
     );
     let dumped = ["A 00FFFF", "A FFFFFFFFFF", "A 0280000082FF", "A FFFFFFFFFFFF7A0102"];
+    let fields = ["W 0001 0000000000000003 02 0041273F800000C0 00 0040 01 07 05 5445535420202020"];
+    see(
+        "the smallest refused field",
+        smallest_unheard('W', "a refusal", &fields) == "W 00*10 01 00",
+    );
+    let groups = ["R 09 0004 0040 07 02 0041273F800000C0 0141273F800000C0 0241273F800000C0"];
+    see(
+        "the smallest refused response",
+        smallest_unheard('R', "a refusal", &groups) == "R 09 00*6",
+    );
     see(
         "the smallest line of the dump",
         smallest_unheard('A', "an answer", &dumped) == "A FF FF FF FF FF 00",

@@ -6,7 +6,7 @@ use std::io::Write;
 use std::ops::Range;
 use std::process::{Command, Stdio};
 
-use crate::cases::{hex, letter_and_bytes, lines_of};
+use crate::cases::{hex, letter_and_bytes, lines_of, parts_of};
 use crate::compare::{differences, takes_runs, Answers, Check, Kind};
 use crate::rules;
 
@@ -112,7 +112,7 @@ fn showing(kind: &Kind, inputs: &[Input], programs: &Programs) -> Vec<bool> {
     inputs.iter().map(shows).collect()
 }
 
-/// The input with a line, a stretch of bytes or the border of two lines left out.
+/// The input with a line, a stretch of bytes, a field or the border of two lines left out.
 fn dropped(input: &Input) -> Vec<Input> {
     let mut candidates = Vec::new();
     for place in 0..input.len() - 1 {
@@ -135,6 +135,7 @@ fn dropped(input: &Input) -> Vec<Input> {
             candidate
         };
         candidates.extend(stretches(line.bytes.len()).map(left_out));
+        candidates.extend(parts_of(line.letter, &line.bytes).into_iter().map(left_out));
         // Equal bytes in a row are shortened to every length.
         let mut start = 0;
         for equal in line.bytes.chunk_by(|one, next| one == next) {

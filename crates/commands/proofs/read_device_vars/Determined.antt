@@ -4,7 +4,7 @@ use mathlib.Core.Path.{◌≡◌, refl, sym, ap, ap₂, ◌∙◌}
 use mathlib.Core.List.{List}
 use Rattle.refusal.specs.Outcome.{reply_of}
 use Rattle.refusal.specs.Determined.{Determined}
-use Rattle.refusal.proofs.Known.{agree, written_known}
+use Rattle.refusal.proofs.Known.{agree, agree_alone, written_known}
 use Rattle.framing.specs.declared.payload.PayloadVerdict.{PayloadVerdict}
 use Rattle.framing.proofs.Determined.{verdict_known}
 use Rattle.commands.proofs.Determined.{worth_known}
@@ -21,6 +21,16 @@ use Rattle.commands.proofs.read_device_vars.read_frame.Kinds as read-frame-kinds
 use Rattle.commands.proofs.read_device_vars.read_frame.Reads as read-frame-reads
 use Rattle.commands.proofs.read_device_vars.read_response.Kinds as read-response-kinds
 use Rattle.commands.proofs.read_device_vars.read_response.Reads as read-response-reads
+use Rattle.commands.proofs.read_device_vars.read_request_frame.Kinds as read-request-frame-kinds
+use Rattle.commands.proofs.read_device_vars.read_request_frame.Reads as read-request-frame-reads
+use Rattle.commands.proofs.read_device_vars.read_request.Kinds as read-request-kinds
+use Rattle.commands.proofs.read_device_vars.read_request.Reads as read-request-reads
+use Rattle.commands.proofs.read_device_vars.encode_response.Kinds as encode-response-kinds
+use Rattle.commands.proofs.read_device_vars.encode_response.Reads as encode-response-reads
+use Rattle.commands.proofs.read_device_vars.DeviceVariable.encode.Kinds as device-variable-encode-kinds
+use Rattle.commands.proofs.read_device_vars.DeviceVariable.encode.Reads as device-variable-encode-reads
+use Rattle.commands.specs.declared.read_device_vars.ReadDeviceVarsRequest.{ReadDeviceVarsRequest}
+use Rattle.commands.specs.Variables.{codes_of}
 
 abbrev response : PayloadVerdict → ℕ → List DeviceVariable → ReadDeviceVarsResponse
 response verdict count variables = record { verdict = verdict; count = count; variables = variables }
@@ -45,3 +55,22 @@ read_frame κs a r s x y = λ p q. (response_known r s (p ∙ sym q), refl)
 
 pub read_response : Determined 0 read-response-kinds.ps read-response-kinds.r read-response-reads.Post (λ κs x. tt {0})
 read_response κs a r s x y = λ p q. (response_known r s (p ∙ sym q), refl)
+
+-- a request is known by what it reads
+request_known : (r s : ReadDeviceVarsRequest) → codes_of r ≡ codes_of s → r ≡ s
+request_known r s e =
+    let codes : r.codes ≡ s.codes = cc in
+    ap (λ (v : PayloadVerdict). record { verdict = v; count = r.count; codes = r.codes }) (verdict_known r.verdict s.verdict (cc))
+    ∙ ap₂ (λ (n : ℕ) (cs : List ℕ). record { verdict = s.verdict; count = n; codes = cs }) (cc) codes
+
+pub device_variable_encode : Determined 0 device-variable-encode-kinds.ps device-variable-encode-kinds.r device-variable-encode-reads.Post (λ κs x. tt {0})
+device_variable_encode κs a r s x y = agree_alone
+
+pub read_request_frame : Determined 1 read-request-frame-kinds.ps read-request-frame-kinds.r read-request-frame-reads.Post (λ κs x. tt {0})
+read_request_frame κs a r s x y = λ p q. (request_known r s (p ∙ sym q), refl)
+
+pub read_request : Determined 0 read-request-kinds.ps read-request-kinds.r read-request-reads.Post (λ κs x. tt {0})
+read_request κs a r s x y = λ p q. (request_known r s (p ∙ sym q), refl)
+
+pub encode_response : Determined 1 encode-response-kinds.ps encode-response-kinds.r encode-response-reads.Post (λ κs x. x.1.1.1.1.1.0.now)
+encode_response κs a r s x y = agree reply_of written_known

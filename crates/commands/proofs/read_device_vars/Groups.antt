@@ -9,7 +9,8 @@ use lib.Seq.{set_at, append_snoc}
 use lib.Ieee.{Float}
 use Rattle.commands.specs.Worth.{float_of}
 use Rattle.commands.specs.declared.read_device_vars.DeviceVariable.{DeviceVariable}
-use Rattle.commands.specs.Variables.{most_variables, group_size, variable, variable_at, first_variables, no_variable}
+use Rattle.commands.specs.Variables.{variable, variable_at, first_variables, no_variable}
+use Rattle.response.specs.Sizes.{most_variables, group_size}
 
 abbrev made : ℕ → ℕ → ℕ → Float → ℕ → ℕ → DeviceVariable
 made code class unit value bits status = record {

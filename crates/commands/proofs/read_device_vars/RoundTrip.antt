@@ -15,8 +15,9 @@ use Rattle.octets.specs.Digits.{Below}
 use Rattle.octets.proofs.Bases.{below_at, digits_from, from_digits_whole, from_below}
 use Rattle.commands.specs.Worth.{worth, Sound}
 use Rattle.commands.proofs.Worths.{keeps_bits, sound}
-use Rattle.commands.proofs.Places.{standing, taken}
-use Rattle.commands.specs.Variables.{most_variables, group_size, codes_requested, variable, variable_at, group_bytes}
+use Rattle.octets.proofs.Places.{standing, taken}
+use Rattle.commands.specs.Variables.{codes_requested, variable, variable_at, group_bytes}
+use Rattle.response.specs.Sizes.{most_variables, group_size}
 
 abbrev float_at : List ℕ → ℕ → List ℕ
 float_at bs base = get_or bs (base + 3) 0 ∷ get_or bs (base + 4) 0 ∷ get_or bs (base + 5) 0 ∷ get_or bs (base + 6) 0 ∷ []

@@ -17,7 +17,8 @@ use Rattle.octets.proofs.Put.{put-nil, length-put, put-snoc, put-wrote}
 use Rattle.packed_string.specs.declared.text_group.Mode.TheVariants.{Crate}
 use Rattle.framing.specs.Payload.{carries}
 use Rattle.commands.specs.declared.read_device_vars.DeviceVariable.{DeviceVariable}
-use Rattle.commands.specs.Variables.{most_variables, group_size, codes_requested, variable, variable_at, groups_of, first_variables, no_variable, reads_variables, variables_read}
+use Rattle.commands.specs.Variables.{codes_requested, variable, variable_at, groups_of, first_variables, no_variable, reads_variables, variables_read}
+use Rattle.response.specs.Sizes.{most_variables, group_size}
 use Rattle.commands.specs.VariablesSource.{
   code_loop,
   source_codes,

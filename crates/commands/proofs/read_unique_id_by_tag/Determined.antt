@@ -1,5 +1,5 @@
 -- Each promise of this module leaves one outcome.
-use mathlib.Core.Path.{refl, sym, ◌∙◌}
+use mathlib.Core.Path.{◌≡◌, refl, sym, ap₂, ◌∙◌}
 use Rattle.refusal.specs.Outcome.{reply_of}
 use Rattle.refusal.specs.Determined.{Determined}
 use Rattle.refusal.proofs.Known.{agree, agree_alone, written_known}
@@ -14,6 +14,18 @@ use Rattle.commands.proofs.read_unique_id_by_tag.read_frame.Kinds as read-frame-
 use Rattle.commands.proofs.read_unique_id_by_tag.read_frame.Reads as read-frame-reads
 use Rattle.commands.proofs.read_unique_id_by_tag.read_response.Kinds as read-response-kinds
 use Rattle.commands.proofs.read_unique_id_by_tag.read_response.Reads as read-response-reads
+use Rattle.commands.proofs.read_unique_id_by_tag.read_request_frame.Kinds as read-request-frame-kinds
+use Rattle.commands.proofs.read_unique_id_by_tag.read_request_frame.Reads as read-request-frame-reads
+use Rattle.commands.proofs.read_unique_id_by_tag.read_request.Kinds as read-request-kinds
+use Rattle.commands.proofs.read_unique_id_by_tag.read_request.Reads as read-request-reads
+use Rattle.commands.proofs.read_unique_id_by_tag.encode_response.Kinds as encode-response-kinds
+use Rattle.commands.proofs.read_unique_id_by_tag.encode_response.Reads as encode-response-reads
+use mathlib.Core.List.{List}
+use Prim.Native.Nat.{ℕ}
+use Rattle.framing.specs.declared.payload.PayloadVerdict.{PayloadVerdict}
+use Rattle.framing.proofs.Determined.{verdict_known}
+use Rattle.commands.specs.declared.read_unique_id_by_tag.ReadUniqueIdByTagRequest.{ReadUniqueIdByTagRequest}
+use Rattle.commands.specs.Tag.{tagged_of}
 
 pub encode_data : Determined 1 encode-data-kinds.ps encode-data-kinds.r encode-data-reads.Post (λ κs x. x.1.1.0.now)
 encode_data κs a r s x y = agree reply_of written_known
@@ -29,3 +41,16 @@ read_frame κs a r s x y = λ p q. (identity_known r s (p ∙ sym q), refl)
 
 pub read_response : Determined 0 read-response-kinds.ps read-response-kinds.r read-response-reads.Post (λ κs x. tt {0})
 read_response κs a r s x y = λ p q. (identity_known r s (p ∙ sym q), refl)
+
+-- a request is known by what it reads
+request_known : (r s : ReadUniqueIdByTagRequest) → tagged_of r ≡ tagged_of s → r ≡ s
+request_known r s e = ap₂ (λ (v : PayloadVerdict) (t : List ℕ). record { verdict = v; tag = t }) (verdict_known r.verdict s.verdict (cc)) (cc)
+
+pub read_request_frame : Determined 1 read-request-frame-kinds.ps read-request-frame-kinds.r read-request-frame-reads.Post (λ κs x. tt {0})
+read_request_frame κs a r s x y = λ p q. (request_known r s (p ∙ sym q), refl)
+
+pub read_request : Determined 0 read-request-kinds.ps read-request-kinds.r read-request-reads.Post (λ κs x. tt {0})
+read_request κs a r s x y = λ p q. (request_known r s (p ∙ sym q), refl)
+
+pub encode_response : Determined 1 encode-response-kinds.ps encode-response-kinds.r encode-response-reads.Post (λ κs x. x.1.1.1.0.now)
+encode_response κs a r s x y = agree reply_of written_known

@@ -10,9 +10,10 @@ use Rattle.refusal.specs.Outcome.{done, ends}
 use Rattle.packed_string.specs.declared.text_group.Mode.{Mode}
 use Rattle.packed_string.specs.Plain.{Plain}
 use Rattle.packed_string.specs.Text.{read_back}
-use Rattle.commands.specs.Modes.{packed_text, unpacked_text, tag_length, tag_size}
-use Rattle.commands.proofs.Texts.{packed_text_size, fields_done}
-use Rattle.commands.proofs.TextRoundTrip.{whole_back, whole_plain_back}
+use Rattle.packed_string.specs.Modes.{packed_text, unpacked_text}
+use Rattle.response.specs.Sizes.{tag_length, tag_size}
+use Rattle.packed_string.proofs.Texts.{packed_text_size, fields_done}
+use Rattle.packed_string.proofs.TextRoundTrip.{whole_back, whole_plain_back}
 use Rattle.commands.specs.Tag.{tag_requested}
 
 module _ (mode : Mode) (tag : List ℕ) (t : length tag ≡ tag_length) where

@@ -16,9 +16,10 @@ use Rattle.packed_string.specs.declared.text_group.Mode.TheVariants.{Crate}
 use Rattle.packed_string.specs.Source.{source_encoded}
 use Rattle.commands.specs.Identity.{Identified, identified, unidentified, identity}
 use Rattle.commands.proofs.IdentitySource.{identity_is_source}
-use Rattle.commands.specs.Modes.{packed_text, unpacked_text, tag_length, tag_size}
-use Rattle.commands.proofs.Texts.{packed_text_size, crate_good}
-use Rattle.commands.proofs.TextSource.{source_lent, source_filled}
+use Rattle.packed_string.specs.Modes.{packed_text, unpacked_text}
+use Rattle.response.specs.Sizes.{tag_length, tag_size}
+use Rattle.packed_string.proofs.Texts.{packed_text_size, crate_good}
+use Rattle.packed_string.proofs.TextSource.{source_lent, source_filled}
 use Rattle.commands.specs.Tag.{tag_requested}
 use Rattle.commands.specs.TagSource.{source_tag_requested, copied, passed_up, source_response, source_tag}
 use Rattle.commands.proofs.read_unique_id_by_tag.Tags.{tag_small, tag_fits}

@@ -1,4 +1,4 @@
--- What a request comes to, case by case, and by way of the part that is lent for the tag.
+-- What a request comes to, case by case, and by way of the part that is lent for the tag; and what a device reads of one.
 use Prim.Native.Nat.{ℕ, ◌≤◌, ◌<◌}
 use native.Mathlib.Omega.{arith}
 use mathlib.Core.Path.{◌≡◌, refl, sym, ap, ◌∙◌}
@@ -7,12 +7,15 @@ use mathlib.Core.List.{List, [], ◌∷◌, ◌++◌}
 use lib.ListN.{length, take, drop, take-append-drop}
 use lib.Seq.{length-take-le}
 use lib.Dec.{ltb}
+use borrow.Author.Tests.{lt-ltb, le-ltb}
 use Rattle.refusal.specs.Outcome.{Reply, done, refused, Outcome, ends, wrote, refuses}
 use Rattle.octets.proofs.Put.{put_front, lent_part}
 use Rattle.packed_string.specs.declared.text_group.Mode.{Mode}
-use Rattle.commands.specs.Modes.{packed_text, tag_length, tag_size, packed_in, bad_in}
-use Rattle.commands.proofs.Texts.{packed_text_size, with_room, packs_in, fields_small, fields_in, fields_fit}
-use Rattle.commands.specs.Tag.{tag_requested}
+use Rattle.packed_string.specs.Modes.{packed_text, unpacked_text, packed_in, bad_in}
+use Rattle.response.specs.Sizes.{tag_length, tag_size}
+use Rattle.packed_string.proofs.Texts.{packed_text_size, with_room, packs_in, fields_small, fields_in, fields_fit}
+use Rattle.framing.specs.Payload.{carries}
+use Rattle.commands.specs.Tag.{tag_requested, reads_tag, tag_refused, tag_read}
 
 module _ (mode : Mode) (tag buffer : List ℕ) where
   pub tag_small : length buffer < tag_size → tag_requested mode tag buffer ≡ refuses 2 [] buffer
@@ -45,3 +48,12 @@ module _ (mode : Mode) (tag buffer : List ℕ) where
         by false =
             let size : length p ≡ tag_size = packed_text_size mode tag t in
             ap (ends (done (length p ∷ []))) (lent_part buffer 0 tag_size p (omega arith) (omega arith) refl ∙ put_front buffer p)
+
+module _ (mode : Mode) (bs : List ℕ) where
+  pub tag_read_short : length bs < tag_size → tag_read mode bs ≡ tag_refused 3 []
+  unfolding tag_read
+  tag_read_short h = rw (lt-ltb (length bs) tag_size h)
+
+  pub tag_read_whole : tag_size ≤ length bs → tag_read mode bs ≡ reads_tag carries (unpacked_text mode (take tag_size bs))
+  unfolding tag_read
+  tag_read_whole h = rw (le-ltb (length bs) tag_size h)

@@ -8,23 +8,12 @@ use lib.ListN.{length, set, length-append}
 use borrow.Author.Tests.{lt-ltb, le-ltb}
 use Rattle.refusal.specs.Outcome.{wrote, refuses}
 use Rattle.packed_string.specs.declared.text_group.Mode.{Mode}
-use Rattle.commands.specs.Modes.{packed_text, tag_length, tag_size, bad_in}
-use Rattle.commands.proofs.Texts.{packed_text_size, bad_in_first, bad_in_second, fields_small, fields_bad, fields_fit}
+use Rattle.packed_string.specs.Modes.{packed_text, bad_in}
+use Rattle.response.specs.Sizes.{tag_length, tag_size, descriptor_length}
+use Rattle.packed_string.proofs.Texts.{packed_text_size, bad_in_first, bad_in_second, fields_small, fields_bad, fields_fit}
 use Rattle.octets.specs.Put.{put}
 use Rattle.octets.proofs.Put.{length-put, put-put, stores_put}
-use Rattle.commands.specs.TagDescriptorDate.{
-  descriptor_length,
-  texts_length,
-  day_at,
-  month_at,
-  year_at,
-  layout_size,
-  tag_descriptor_date_layout,
-  tag_descriptor_date_requested,
-  fields_at,
-  fields_refused,
-  fields_read,
-}
+use Rattle.commands.specs.TagDescriptorDate.{texts_length, day_at, month_at, year_at, layout_size, tag_descriptor_date_layout, tag_descriptor_date_requested, fields_at, fields_refused, fields_read}
 
 -- both texts' characters, one behind the other
 module _ (tag descriptor : List ℕ) (t : length tag ≡ tag_length) (d : length descriptor ≡ descriptor_length) where

@@ -12,6 +12,12 @@ use Rattle.commands.proofs.write_tag_descriptor_date.read_frame.Kinds as read-fr
 use Rattle.commands.proofs.write_tag_descriptor_date.read_frame.Reads as read-frame-reads
 use Rattle.commands.proofs.write_tag_descriptor_date.read_response.Kinds as read-response-kinds
 use Rattle.commands.proofs.write_tag_descriptor_date.read_response.Reads as read-response-reads
+use Rattle.commands.proofs.write_tag_descriptor_date.read_request_frame.Kinds as read-request-frame-kinds
+use Rattle.commands.proofs.write_tag_descriptor_date.read_request_frame.Reads as read-request-frame-reads
+use Rattle.commands.proofs.write_tag_descriptor_date.read_request.Kinds as read-request-kinds
+use Rattle.commands.proofs.write_tag_descriptor_date.read_request.Reads as read-request-reads
+use Rattle.commands.proofs.write_tag_descriptor_date.encode_response.Kinds as encode-response-kinds
+use Rattle.commands.proofs.write_tag_descriptor_date.encode_response.Reads as encode-response-reads
 
 pub encode_data : Determined 1 encode-data-kinds.ps encode-data-kinds.r encode-data-reads.Post (λ κs x. x.1.1.1.1.1.1.0.now)
 encode_data κs a r s x y = agree reply_of written_known
@@ -24,3 +30,12 @@ read_frame κs a r s x y = λ p q. (fields_known r s (p ∙ sym q), refl)
 
 pub read_response : Determined 0 read-response-kinds.ps read-response-kinds.r read-response-reads.Post (λ κs x. tt {0})
 read_response κs a r s x y = λ p q. (fields_known r s (p ∙ sym q), refl)
+
+pub read_request_frame : Determined 1 read-request-frame-kinds.ps read-request-frame-kinds.r read-request-frame-reads.Post (λ κs x. tt {0})
+read_request_frame κs a r s x y = λ p q. (fields_known r s (p ∙ sym q), refl)
+
+pub read_request : Determined 0 read-request-kinds.ps read-request-kinds.r read-request-reads.Post (λ κs x. tt {0})
+read_request κs a r s x y = λ p q. (fields_known r s (p ∙ sym q), refl)
+
+pub encode_response : Determined 1 encode-response-kinds.ps encode-response-kinds.r encode-response-reads.Post (λ κs x. x.1.1.1.1.1.1.1.1.0.now)
+encode_response κs a r s x y = agree reply_of written_known

@@ -11,10 +11,11 @@ use Rattle.packed_string.specs.Plain.{Plain}
 use Rattle.packed_string.specs.Text.{read_back}
 use Rattle.packed_string.proofs.RoundTrip.{plain_back}
 use Rattle.framing.specs.Payload.{carries}
-use Rattle.commands.specs.Modes.{packed_text, unpacked_text, tag_length, tag_size}
-use Rattle.commands.proofs.Texts.{packed_text_size, fields_done}
-use Rattle.commands.proofs.TextRoundTrip.{whole_back}
-use Rattle.commands.specs.TagDescriptorDate.{descriptor_length, descriptor_size, day_at, month_at, year_at, layout_size, tag_descriptor_date_layout, tag_descriptor_date_requested, reads_fields, fields_read}
+use Rattle.packed_string.specs.Modes.{packed_text, unpacked_text}
+use Rattle.response.specs.Sizes.{tag_length, tag_size, descriptor_length, descriptor_size}
+use Rattle.packed_string.proofs.Texts.{packed_text_size, fields_done}
+use Rattle.packed_string.proofs.TextRoundTrip.{whole_back}
+use Rattle.commands.specs.TagDescriptorDate.{day_at, month_at, year_at, layout_size, tag_descriptor_date_layout, tag_descriptor_date_requested, reads_fields, fields_read}
 use Rattle.commands.proofs.tag_descriptor_date.Layouts.{length_texts, length-layout, read_whole}
 
 module _ (mode : Mode) (tag descriptor : List ℕ) (day month year : ℕ) (t : length tag ≡ tag_length) (d : length descriptor ≡ descriptor_length) (rest : List ℕ) where

@@ -1,6 +1,6 @@
 -- write_tag_descriptor_date.rs never stops, and does what document 01 says of command 18 in crate mode: its lines (specs/Source.antt) come
 -- to what specs/TagDescriptorDate.antt gives.
-use Prim.Native.Nat.{ℕ, zero, suc, ◌≤◌}
+use Prim.Native.Nat.{ℕ, ◌≤◌}
 use native.Mathlib.Omega.{arith}
 use mathlib.Core.Path.{◌≡◌, refl, sym, ap, ◌∙◌}
 use mathlib.Core.Bool.{Bool, true, false, cond}
@@ -11,16 +11,18 @@ use lib.Dec.{ltb}
 use borrow.Author.Tests.{ltb-true, ltb-false, lt-ltb, le-leb}
 use Rattle.refusal.specs.Outcome.{Outcome, ends, done, refuses}
 use Rattle.octets.specs.Digits.{Below}
+use Rattle.octets.proofs.Bases.{below_take, below_drop}
 use Rattle.octets.specs.Put.{put}
 use Rattle.octets.specs.Source.{Run, comes, store_at, lent_to, read_at, slice_at, after_call}
 use Rattle.octets.proofs.Put.{length-put, put-wrote}
 use Rattle.packed_string.specs.declared.text_group.Mode.TheVariants.{Crate}
 use Rattle.packed_string.specs.Source.{source_encoded, source_decoded}
 use Rattle.framing.specs.Payload.{carries}
-use Rattle.commands.specs.Modes.{packed_text, unpacked_text, tag_length, tag_size}
-use Rattle.commands.proofs.Texts.{packed_text_size, crate_good}
-use Rattle.commands.proofs.TextSource.{source_lent, source_filled}
-use Rattle.commands.specs.TagDescriptorDate.{descriptor_length, descriptor_size, day_at, month_at, year_at, layout_size, Fields, reads_fields, tag_descriptor_date_layout, tag_descriptor_date_requested, fields_refused, fields_read}
+use Rattle.packed_string.specs.Modes.{packed_text, unpacked_text}
+use Rattle.response.specs.Sizes.{tag_length, tag_size, descriptor_length, descriptor_size}
+use Rattle.packed_string.proofs.Texts.{packed_text_size, crate_good}
+use Rattle.packed_string.proofs.TextSource.{source_lent, source_filled}
+use Rattle.commands.specs.TagDescriptorDate.{day_at, month_at, year_at, layout_size, Fields, reads_fields, tag_descriptor_date_layout, tag_descriptor_date_requested, fields_refused, fields_read}
 use Rattle.commands.specs.TagDescriptorDateSource.{source_fields_requested, source_read}
 use Rattle.commands.proofs.tag_descriptor_date.Layouts.{length_both, length-layout, fields_put, requested_small, requested_fits, read_short, read_whole}
 
@@ -56,16 +58,6 @@ encode_is_source tag descriptor day month year buf t d = by (ltb (length buf) la
         (ap comes (put-wrote buf (tag_descriptor_date_layout Crate tag descriptor day month year) (fields_put Crate tag descriptor day month year t d buf room refl refl) (sym (length-layout Crate tag descriptor day month year t d))
         ∙ sym (requested_fits Crate tag descriptor day month year t d buf room (omega (arith, crate_good (tag ++ descriptor), length_both tag descriptor t d)))))
 
-below_take : (n : ℕ) (bs : List ℕ) → Below 256 bs → Below 256 (take n bs)
-below_take zero bs h = tt
-below_take (suc n) [] h = tt
-below_take (suc n) (b ∷ bs) h = (h.0, below_take n bs h.1)
-
-below_drop : (n : ℕ) (bs : List ℕ) → Below 256 bs → Below 256 (drop n bs)
-below_drop zero bs h = h
-below_drop (suc n) [] h = tt
-below_drop (suc n) (b ∷ bs) h = below_drop n bs h.1
-
 pub decode_is_source : (bs : List ℕ) → Below 256 bs → source_read bs ≡ comes (fields_read Crate bs)
 decode_is_source bs h = by (ltb (length bs) layout_size) refl
   where
@@ -84,7 +76,7 @@ decode_is_source bs h = by (ltb (length bs) layout_size) refl
         let l₁ : length first ≡ tag_size = length-take-le tag_size bs (omega arith) in
         let l₂ : length second ≡ descriptor_size = length-take-le descriptor_size (drop tag_size bs) (omega (arith, length-drop tag_size bs)) in
         rw (le-leb tag_size (length bs) (omega arith))
-        (source_filled first (replicate tag_length 0x20) described (below_take tag_size bs h) (omega arith) (omega arith)
+        (source_filled first (replicate tag_length 0x20) described (below_take 256 tag_size bs h) (omega arith) (omega arith)
         ∙ rw (le-leb day_at (length bs) (omega arith))
-        (source_filled second (replicate descriptor_length 0x20) (dated (unpacked_text Crate first)) (below_take descriptor_size (drop tag_size bs) (below_drop tag_size bs h)) (omega arith) (omega arith)
+        (source_filled second (replicate descriptor_length 0x20) (dated (unpacked_text Crate first)) (below_take 256 descriptor_size (drop tag_size bs) (below_drop 256 tag_size bs h)) (omega arith) (omega arith)
         ∙ rw (lt-ltb day_at (length bs) (omega arith), lt-ltb month_at (length bs) (omega arith), lt-ltb year_at (length bs) (omega arith)) (ap comes (sym (read_whole Crate bs room)))))

@@ -7,6 +7,7 @@ use mathlib.Core.List.{List}
 use lib.Dec.{eqb}
 use lib.ListN.{length}
 use borrow.Author.Tests.{eqb-true, ltb-true}
+use Rattle.octets.proofs.Tests.{and_first, and_second}
 use Rattle.types.specs.Address.{head_length, head_room}
 use Rattle.types.proofs.Addresses.{head_length_le}
 use Rattle.line.specs.machine.Step.{opening_in}
@@ -22,7 +23,6 @@ use Rattle.line.specs.declared.state.State.TheVariants.{
   Data,
   Checksum,
 }
-use Rattle.line.proofs.machine.Zeros.{and_first, and_second}
 
 -- each of its four parts holds
 module _ (s : State) (bs : List ℕ) (r : reachable_at s bs ≡ true) where

@@ -11,6 +11,7 @@ use lib.Seq.{length-take-le, take-take}
 use borrow.Author.Tests.{eqb-true, ltb-true, leb-true}
 use Rattle.octets.specs.Check.{check, check_from}
 use Rattle.octets.proofs.Check.{check_first}
+use Rattle.octets.proofs.Tests.{and_first, and_second}
 use Rattle.types.specs.declared.delimiter.Opening.{Opening}
 use Rattle.types.specs.Delimiter.{delimiter}
 use Rattle.types.specs.Address.{head_length, head_room}
@@ -39,7 +40,6 @@ use Rattle.line.specs.declared.state.State.TheVariants.{
   Data,
   Checksum,
 }
-use Rattle.line.proofs.machine.Zeros.{and_first, and_second}
 use Rattle.line.proofs.machine.Claims.{whole, possible, clear, right, possible_address}
 use Rattle.line.proofs.machine.Padded.{padded_back}
 use Rattle.line.proofs.machine.Demand.{ends_scanned}

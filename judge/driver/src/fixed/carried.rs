@@ -1,7 +1,9 @@
 //! What a frame carries, which document 01 adds: the payload, typed readings, and what a device
 //! variable is worth.
 
-use crate::cases::{Carrier, Case, FrameType, Mode, Reader, FRAME_TYPES, MODES, READERS};
+use crate::cases::{
+    Carrier, Case, Command, FrameType, Mode, COMMANDS, FRAME_TYPES, MODES, WITHOUT_DATA,
+};
 use crate::generate::Sheet;
 
 use super::ramp;
@@ -33,7 +35,7 @@ pub fn carried(sheet: &mut Sheet) {
     sheet.remark(
         "Typed readings: each reader, mode and type; data short, refused, whole; other commands",
     );
-    for reader in READERS {
+    for reader in COMMANDS {
         for (mode, frame_type) in MODES.into_iter().flat_map(|m| FRAME_TYPES.map(|t| (m, t))) {
             typed_readings(sheet, mode, reader, frame_type);
         }
@@ -84,12 +86,12 @@ fn payloads(sheet: &mut Sheet) {
     }
 }
 
-fn typed_readings(sheet: &mut Sheet, mode: Mode, reader: Reader, frame_type: FrameType) {
+fn typed_readings(sheet: &mut Sheet, mode: Mode, reader: Command, frame_type: FrameType) {
     let mut read = |command: u8, status: &[u8], payload: &[u8]| {
         let data = [status, payload].concat();
         sheet.case(&Case::ReadFrame(mode, reader, Carrier { frame_type, command, data }));
     };
-    let command = reader.command();
+    let command = reader.number();
     let whole = ramp(whole_response(mode, reader));
     read(command, &[], &[]);
     read(command, &[0x00], &[]);
@@ -101,7 +103,11 @@ fn typed_readings(sheet: &mut Sheet, mode: Mode, reader: Reader, frame_type: Fra
     for status in [[0x80, 0x40], [0xFF, 0x00], [0x7F, 0x40], [0x01, 0x00]] {
         read(command, &status, &whole);
     }
-    for other in [0, 9, 11, 18, command + 1].into_iter().filter(|&other| other != command) {
+    // Another command is refused before the mode is looked at.
+    if mode == Mode::Crate && WITHOUT_DATA.contains(&reader) {
+        return;
+    }
+    for other in [0, 9, 11, 13, 18, command + 1].into_iter().filter(|&other| other != command) {
         read(other, &[], &[]);
         read(other, &[0x80, 0x00], &whole);
         read(other, &[0x00, 0x00], &whole);
@@ -109,11 +115,11 @@ fn typed_readings(sheet: &mut Sheet, mode: Mode, reader: Reader, frame_type: Fra
 }
 
 /// The bytes of the shortest payload that gives something.
-fn whole_response(mode: Mode, reader: Reader) -> usize {
+fn whole_response(mode: Mode, reader: Command) -> usize {
     match (reader, mode) {
-        (Reader::DeviceVariables, Mode::Crate) => 8,
-        (Reader::DeviceVariables, Mode::Standard) => 9,
-        (Reader::IdentityByTag, _) => 12,
-        (Reader::TagDescriptorDate, _) => 21,
+        (Command::ReadVariables, Mode::Crate) => 8,
+        (Command::ReadVariables, Mode::Standard) => 9,
+        (Command::ReadIdentity | Command::ReadIdentityByTag, _) => 12,
+        (Command::ReadTagDescriptorDate | Command::WriteTagDescriptorDate, _) => 21,
     }
 }

@@ -1,10 +1,11 @@
-//! Document 01's examples, and the boundaries beside them, by hand: cases with their answers. They
-//! are in the fixed list, and the self-test holds `rules` against them.
+//! Document 01's examples, and the boundaries beside them, by hand: cases with their answers; then
+//! those of what document 02 adds. They are in the fixed list, and the self-test holds `rules` against
+//! them.
 //!
 //! In examples.txt a line is a remark (`#`), a case, or the answer to the case before it (`=`).
-//! Spaces are for the reader, but in the dump's lines. `FF*256` is 256 bytes FF, and `6~263` an
-//! untouched room's bytes from place 6 up to place 263. A line of `vlb` is fed in all three ways,
-//! each to a new decoder.
+//! Spaces are for the reader, but in the answers of the dump and of `W`. `FF*256` is 256 bytes FF, and
+//! `6~263` an untouched room's bytes from place 6 up to place 263; `+` joins two of these without a
+//! space. A line of `vlb` is fed in all three ways, each to a new decoder.
 
 use crate::cases::{fresh_room, hex};
 
@@ -44,15 +45,16 @@ fn cases_of(line: &str) -> Vec<String> {
 }
 
 fn written_out(line: &str) -> String {
-    let word_out = |word: &str| {
-        if let Some((byte, times)) = word.split_once('*') {
+    let part_out = |part: &str| {
+        if let Some((byte, times)) = part.split_once('*') {
             byte.repeat(number(times))
-        } else if let Some((from, to)) = word.split_once('~') {
+        } else if let Some((from, to)) = part.split_once('~') {
             hex(&fresh_room(number(to))[number(from)..])
         } else {
-            word.into()
+            part.into()
         }
     };
+    let word_out = |word: &str| word.split('+').map(part_out).collect::<String>();
     line.split(' ').map(word_out).collect::<Vec<_>>().join(" ")
 }
 

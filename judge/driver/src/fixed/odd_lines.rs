@@ -1,6 +1,9 @@
 //! Lines that are no case, and cases in odd dress, which are.
 
-use crate::cases::{Case, DecoderValue, FrameType, Phase, HELD_BYTES, MOST_BYTES, MOST_ROOM};
+use crate::cases::{
+    Carrier, Case, Command, DecoderValue, FrameType, Handed, Phase, Response, HELD_BYTES, MODES,
+    MOST_BYTES, MOST_DATA, MOST_GROUPS, MOST_ROOM,
+};
 use crate::generate::Sheet;
 
 /// Lines that are no case, the first of them empty; and cases in odd dress.
@@ -124,13 +127,113 @@ A
 c
 E ";
 
+/// The same of calls that document 02 adds.
+const OF_DEVICE: &str = "I F
+I 0x
+J
+J 02
+J FF00
+J 0
+f 0001
+f 0000
+f 000001
+f 02000100
+f 00000300
+f 000D
+f 00FE010000
+Q
+Q 00
+Q 0009
+Q 000900
+Q 02
+Q 0209
+Q 020900
+Q 04090009
+Q FF090009
+Q 000A000A
+Q 020A000A
+Q 03090309
+Q 00010001
+Q 00090309
+Q 00FF0009
+O
+O 00
+O 0000
+O 000401
+O 00FFFF
+O 090000
+O 0B0000
+O 120000
+O 01 0000
+O 00000000
+R 00
+R 01000E 0000 FE260A0505010204010000010203
+R 000401 0000 FE260A0505010204010000010203
+R 00000E 0000
+R 00000E 00
+R 00000E 0000 FE260A05050102040100000102
+R 00000E 0000 FE260A050501020401000001020300
+R 0B000E 0000 FE260A05050102040100000102
+R 0B000E 0000 FE260A050501020401000001020300
+R 090003 0000
+R 090003 0000 07
+R 09000B 0000 07 01 0041273F800000
+R 09000B 0000 07 01 0041273F800000C000
+R 0D0017 0000
+R 0D0017 0000 00
+R 0D0017 0000 02 5445535420202020 41424344454647484950515253545556 1F0C7E
+R 0D0017 0000 01 5445535420202020 41424344454647484950515253545556 1F0C
+R 0D0017 0000 01 5445535420202020 41424344454647484950515253545556 1F0C7E00
+R 120017 0000 FF 5445535420202020 41424344454647484950515253545556 1F0C7E
+R 120017 0000 01 5445535420202020 41424344454647484950515253545556 1F0C
+W
+W 00
+W 0003
+W 0003 00000000000000
+W 0401 0000000000000000
+W FFFF 0000000000000000 01 07
+W 0003 0000000000000000 00
+W 0003 0000000000000000 00 00
+W 0003 0000000000000000 01
+W 0008 0000000000000000 02 0041273F800000
+W 000C 0000000000000000 03 FE260A0505010221000102
+W 0006 0000000000000000 05 54455354202020
+W 000C 0000000000000000 07 414243444546474849505152535455
+W 0003 0000000000000000 08 1F0C
+W 0003 0000000000000000 09 07
+W 0003 0000000000000000 FF
+W 0003 0000000000000000 01 07 09
+F
+F 00
+F 0401
+F FFFF 01 07
+F 0002 00
+F 0002 00 00
+F 0008 02 0041273F800000
+F 0006 04 54455354202020
+F 000C 06 414243444546474849505152535455
+F 0002 09 07
+F 0002 00 0000 01
+I
+I fe 26 0a 05 05 01 02 21 00 01 02 03
+J00
+Q0009 00 09 0a
+Q0209 00 09 0a
+O 0 00 00 0
+f00 0d 01 0d 00
+R0900030040 07 00
+W0003 00 00 00 00 00 00 00 00 01 0f
+F00 01 01 0a";
+
 pub fn odd_lines(sheet: &mut Sheet) {
     sheet.remark("Lines that are no case, the first of them empty; then cases in odd dress");
     OF_THE_RUST.lines().for_each(|line| sheet.line(line));
     sheet.remark("The same of the calls that document 01 adds, and remarks");
     OF_ADDED.lines().for_each(|line| sheet.line(line));
+    sheet.remark("The same of the calls that document 02 adds");
+    OF_DEVICE.lines().for_each(|line| sheet.line(line));
     sheet.remark(&vec!["longer than a case may be"; MOST_BYTES / 25].join(" "));
-    sheet.remark("No cases: a byte too many of a block, and of a decoder");
+    sheet.remark("No cases: a byte too many of a block, of a decoder and of a whole frame's data; a group too many");
     sheet.case(&Case::ClearBlock(vec![0; MOST_ROOM + 1]));
     sheet.case(&Case::FeedBlock { room: 0, byte: 0, block: vec![0; MOST_ROOM + 1] });
     sheet.case(&Case::Become(DecoderValue {
@@ -143,4 +246,17 @@ pub fn odd_lines(sheet: &mut Sheet) {
         expected: 0,
         bytes: vec![0; HELD_BYTES + 1],
     }));
+    for mode in MODES {
+        let data = vec![0; MOST_DATA + 1];
+        let carrier = Carrier { frame_type: FrameType::Request, command: 9, data };
+        sheet.case(&Case::ReadRequest(Handed::Whole, mode, Command::ReadVariables, carrier));
+    }
+    for groups in [MOST_GROUPS, MOST_GROUPS + 1] {
+        sheet.case(&Case::WriteResponse {
+            command: Command::ReadVariables,
+            room: 3,
+            status: [0, 0],
+            response: Response::Variables { extended: 7, count: 0, groups: vec![[1; 8]; groups] },
+        });
+    }
 }

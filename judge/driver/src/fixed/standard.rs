@@ -5,10 +5,10 @@ use crate::generate::{Sheet, GROUP_LENGTHS};
 
 use super::{characters, in_turn, ramp};
 
-const TAG: [u8; 8] = *b"TT-101  ";
-const DESCRIPTOR: [u8; 16] = *b"LEVEL 7 TANK 12 ";
+pub const TAG: [u8; 8] = *b"TT-101  ";
+pub const DESCRIPTOR: [u8; 16] = *b"LEVEL 7 TANK 12 ";
 /// The characters beside those with a code, and others without.
-const NO_CODE: [u8; 6] = [0x1F, 0x60, 0x00, 0x61, 0x7F, 0xFF];
+pub const NO_CODE: [u8; 6] = [0x1F, 0x60, 0x00, 0x61, 0x7F, 0xFF];
 
 pub fn text(sheet: &mut Sheet) {
     sheet.remark(
@@ -99,7 +99,7 @@ fn command_18(sheet: &mut Sheet) {
 }
 
 /// A character by its place in the tag, then the descriptor.
-fn character(fields: &mut TagDescriptorDate, place: usize) -> &mut u8 {
+pub fn character(fields: &mut TagDescriptorDate, place: usize) -> &mut u8 {
     match place.checked_sub(8) {
         None => &mut fields.tag[place],
         Some(place) => &mut fields.descriptor[place],

@@ -1,7 +1,7 @@
 //! Cases from a seed of the calls that document 01 adds: at random, and near what is accepted.
 
 use crate::cases::{
-    Carrier, Case, DecoderValue, FrameType, Reader, Way, FRAME_TYPES, HELD_BYTES, MODES, READERS,
+    Carrier, Case, Command, DecoderValue, FrameType, Way, COMMANDS, FRAME_TYPES, HELD_BYTES, MODES,
 };
 use crate::generate::{Part, Sheet, FLOATS};
 use crate::random::Random;
@@ -46,15 +46,15 @@ fn random_data(random: &mut Random, length: usize) -> Vec<u8> {
 }
 
 fn random_typed(random: &mut Random) -> Case {
-    let reader = random.one_of(&READERS);
+    let reader = random.one_of(&COMMANDS);
     let length = match reader {
-        Reader::DeviceVariables => random.below(80),
-        Reader::IdentityByTag => random.near(12),
-        Reader::TagDescriptorDate => random.near(21),
+        Command::ReadVariables => random.below(80),
+        Command::ReadIdentity | Command::ReadIdentityByTag => random.near(12),
+        Command::ReadTagDescriptorDate | Command::WriteTagDescriptorDate => random.near(21),
     };
     let frame_type =
         if random.once_in(3) { random.one_of(&FRAME_TYPES) } else { FrameType::Response };
-    let command = if random.once_in(6) { random.byte() } else { reader.command() };
+    let command = if random.once_in(6) { random.byte() } else { reader.number() };
     let data = random_data(random, length);
     Case::ReadFrame(random.one_of(&MODES), reader, Carrier { frame_type, command, data })
 }

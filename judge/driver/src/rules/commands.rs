@@ -1,7 +1,7 @@
 //! 'Commands': identities, device variables, what a response carries.
 
-use crate::answers::{Answer, Identity, Reading, Refusal, Variable};
-use crate::cases::{Carrier, FrameType, Mode, Reader, TagDescriptorDate};
+use crate::answers::{Answer, Reading, Refusal, Variable};
+use crate::cases::{Carrier, Command, FrameType, Identity, Mode, TagDescriptorDate};
 
 use super::array;
 use super::text::unpacked;
@@ -15,12 +15,12 @@ pub fn variables(mode: Mode, data: &[u8]) -> Answer {
     Answer::Variables(groups.chunks_exact(8).take(8).map(variable_of).collect())
 }
 
-/// The response of command 11.
+/// The response of command 11; and, by document 02, of command 0.
 pub fn identity(data: &[u8]) -> Answer {
     read(data, 12, |data| Answer::Identity(identity_of(data)))
 }
 
-/// The response of command 18.
+/// The response of command 18; and, by document 02, of command 13.
 pub fn tag_descriptor_date(mode: Mode, data: &[u8]) -> Answer {
     read(data, 21, |data| {
         Answer::TagDescriptorDate(TagDescriptorDate {
@@ -47,15 +47,17 @@ pub fn payload(frame_type: FrameType, data: &[u8]) -> Result<&[u8], Refusal> {
 }
 
 /// A typed reading. Another command is refused before the payload is looked at.
-pub fn typed(mode: Mode, reader: Reader, carrier: &Carrier) -> Answer {
-    if carrier.command != reader.command() {
+pub fn typed(mode: Mode, reader: Command, carrier: &Carrier) -> Answer {
+    if carrier.command != reader.number() {
         return Answer::Refused(Refusal::WrongFrame);
     }
     match (reader, payload(carrier.frame_type, &carrier.data)) {
         (_, Err(refusal)) => Answer::Refused(refusal),
-        (Reader::DeviceVariables, Ok(part)) => variables(mode, part),
-        (Reader::IdentityByTag, Ok(part)) => identity(part),
-        (Reader::TagDescriptorDate, Ok(part)) => tag_descriptor_date(mode, part),
+        (Command::ReadVariables, Ok(part)) => variables(mode, part),
+        (Command::ReadIdentity | Command::ReadIdentityByTag, Ok(part)) => identity(part),
+        (Command::ReadTagDescriptorDate | Command::WriteTagDescriptorDate, Ok(part)) => {
+            tag_descriptor_date(mode, part)
+        }
     }
 }
 

@@ -2,8 +2,8 @@
 use native.Mathlib.Omega.{arith}
 use mathlib.Core.Path.{ap, ◌∙◌}
 use lib.ListN.{replicate}
-use Rattle.commands.specs.Modes.{tag_length}
-use Rattle.commands.proofs.Texts.{left_by, unpacks_full}
+use Rattle.response.specs.Sizes.{tag_length}
+use Rattle.packed_string.proofs.Texts.{left_by, unpacks_full}
 use Rattle.commands.proofs.read_unique_id_by_tag.decode_tag.Goals as goal
 
 pub returns : goal.returns

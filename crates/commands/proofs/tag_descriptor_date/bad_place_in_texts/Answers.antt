@@ -2,8 +2,9 @@
 use Prim.Native.Nat.{ℕ, ◌+◌}
 use native.Mathlib.Omega.{arith}
 use mathlib.Core.Path.{◌≡◌, sym, ap, ◌∙◌}
-use Rattle.commands.specs.Modes.{tag_length, bad_in}
-use Rattle.commands.proofs.Texts.{bad_in_within}
+use Rattle.packed_string.specs.Modes.{bad_in}
+use Rattle.response.specs.Sizes.{tag_length}
+use Rattle.packed_string.proofs.Texts.{bad_in_within}
 use Rattle.commands.proofs.tag_descriptor_date.Layouts.{bad_in_tag, bad_beyond}
 use Rattle.commands.proofs.tag_descriptor_date.bad_place_in_texts.Goals as goal
 

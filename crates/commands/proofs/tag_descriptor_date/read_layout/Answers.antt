@@ -8,9 +8,10 @@ use lib.Seq.{length-take-le}
 use Rattle.refusal.specs.Outcome.{Reply, ends}
 use Rattle.packed_string.specs.declared.text_group.Mode.{Mode}
 use Rattle.framing.specs.Payload.{carries}
-use Rattle.commands.specs.Modes.{tag_length, tag_size, unpacked_in}
-use Rattle.commands.proofs.Texts.{left_by, unpacks_full}
-use Rattle.commands.specs.TagDescriptorDate.{descriptor_length, descriptor_size, day_at, month_at, year_at, layout_size, reads_fields, fields_read}
+use Rattle.packed_string.specs.Modes.{unpacked_in}
+use Rattle.response.specs.Sizes.{tag_length, tag_size, descriptor_length, descriptor_size}
+use Rattle.packed_string.proofs.Texts.{left_by, unpacks_full}
+use Rattle.commands.specs.TagDescriptorDate.{day_at, month_at, year_at, layout_size, reads_fields, fields_read}
 use Rattle.commands.proofs.tag_descriptor_date.Layouts.{read_short, read_whole}
 use Rattle.commands.proofs.tag_descriptor_date.read_layout.Goals as goal
 

@@ -9,9 +9,10 @@ use Rattle.refusal.specs.Outcome.{Reply, ends}
 use Rattle.octets.specs.Put.{put}
 use Rattle.octets.proofs.Put.{length-put}
 use Rattle.packed_string.specs.declared.text_group.Mode.{Mode}
-use Rattle.commands.specs.Modes.{packed_text, tag_length, tag_size, packed_in, bad_in}
-use Rattle.commands.proofs.Texts.{packed_text_size, good_in_first, good_in_second, lent_text}
-use Rattle.commands.specs.TagDescriptorDate.{descriptor_length, descriptor_size, texts_length, day_at, month_at, year_at, layout_size, tag_descriptor_date_layout}
+use Rattle.packed_string.specs.Modes.{packed_text, packed_in, bad_in}
+use Rattle.response.specs.Sizes.{tag_length, tag_size, descriptor_length, descriptor_size}
+use Rattle.packed_string.proofs.Texts.{packed_text_size, good_in_first, good_in_second, lent_text}
+use Rattle.commands.specs.TagDescriptorDate.{texts_length, day_at, month_at, year_at, layout_size, tag_descriptor_date_layout}
 use Rattle.commands.proofs.tag_descriptor_date.Layouts.{fields_put}
 use Rattle.commands.proofs.tag_descriptor_date.write_layout.Goals as goal
 

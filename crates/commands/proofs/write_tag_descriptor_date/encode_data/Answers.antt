@@ -5,7 +5,7 @@ use mathlib.Core.Path.{◌≡◌, sym, ap, ◌∙◌}
 use mathlib.Core.List.{[], ◌∷◌, ◌++◌}
 use Rattle.refusal.specs.Outcome.{refuses}
 use Rattle.octets.proofs.Put.{put-wrote}
-use Rattle.commands.specs.Modes.{bad_in}
+use Rattle.packed_string.specs.Modes.{bad_in}
 use Rattle.commands.specs.TagDescriptorDate.{texts_length, tag_descriptor_date_layout}
 use Rattle.commands.proofs.tag_descriptor_date.Layouts.{length-layout, requested_small, requested_bad, requested_fits}
 use Rattle.commands.proofs.write_tag_descriptor_date.encode_data.Goals as goal

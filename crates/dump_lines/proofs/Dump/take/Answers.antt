@@ -4,7 +4,7 @@ use mathlib.Core.Bool.{true, ◌&&◌}
 use lib.Dec.{ltb, leb}
 use lib.ListN.{length}
 use borrow.Author.Tests.{lt-ltb, ltb-true, leb-true, leb-false}
-use Rattle.line.proofs.machine.Zeros.{and_first, and_second}
+use Rattle.octets.proofs.Tests.{and_first, and_second}
 use Rattle.dump_lines.specs.Text.{line_max}
 use Rattle.dump_lines.proofs.Along.{took_more, took_all, took_text}
 use Rattle.dump_lines.proofs.Dump.take.Goals as goal

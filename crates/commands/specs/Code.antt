@@ -1,0 +1,25 @@
+-- What only the code needs: the fields of the responses, added in turn.
+use Rattle.std.specs.Prelude.{ℕ, zero, suc, List, [], ◌∷◌, get_or}
+use Rattle.packed_string.specs.declared.text_group.Mode.{Mode}
+use Rattle.response.specs.Field.{field_of}
+use Rattle.response.specs.Writer.{no_fields, with_field}
+use Rattle.response.specs.declared.field.Kind.TheVariants.{Bytes, Group, Text}
+use Rattle.response.specs.declared.writer.ResponseFields.{ResponseFields}
+use Rattle.commands.specs.declared.identity.DeviceIdentity.{DeviceIdentity}
+use Rattle.commands.specs.declared.read_device_vars.DeviceVariable.{DeviceVariable}
+use Rattle.commands.specs.Identity.{identity_bytes}
+use Rattle.commands.specs.Variables.{group_bytes, no_variable}
+
+abbrev pub status_field : ℕ → ℕ → ResponseFields
+status_field first second = with_field no_fields (field_of Bytes (first ∷ second ∷ []))
+
+abbrev pub identity_fields : ℕ → ℕ → DeviceIdentity → ResponseFields
+identity_fields first second i = with_field (status_field first second) (field_of Bytes (identity_bytes i))
+
+abbrev pub variables_fields : ℕ → ℕ → ℕ → List DeviceVariable → ℕ → ResponseFields
+variables_fields first second extended vs zero = with_field (status_field first second) (field_of Bytes (extended ∷ []))
+variables_fields first second extended vs (suc n) = with_field (variables_fields first second extended vs n) (field_of Group (group_bytes (get_or vs n no_variable)))
+
+abbrev pub texts_fields : Mode → ℕ → ℕ → List ℕ → List ℕ → ℕ → ℕ → ℕ → ResponseFields
+texts_fields mode first second tag descriptor day month year =
+    with_field (with_field (with_field (status_field first second) (field_of (Text mode) tag)) (field_of (Text mode) descriptor)) (field_of Bytes (day ∷ month ∷ year ∷ []))

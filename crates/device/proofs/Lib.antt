@@ -1,0 +1,12 @@
+pub mod Variables
+pub mod Texts
+pub mod Spoken
+pub mod Requests
+pub mod Answers
+pub mod Echo
+pub mod Room
+pub mod Along
+pub mod Conversation
+pub mod Small
+pub mod Overheard
+pub mod Determined

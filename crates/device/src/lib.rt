@@ -1,0 +1,258 @@
+// A device, to show the other side of a conversation (document 02, 1/12): what it answers to a frame that it heard.
+// It keeps nothing from one frame to the next, and answers whatever address it is asked by.
+#![tactic(auto)]
+
+mod own;
+
+ghost use Rattle.std.specs.Prelude.{◌≡◌, map, ◌≤◌, length, take};
+ghost use Rattle.refusal.specs.Outcome.{ends, reply_of};
+ghost use Rattle.packed_string.specs.declared.text_group.Mode.TheVariants.{Standard};
+ghost use Rattle.types.specs.declared.delimiter.FrameType.TheVariants.{Request, Response};
+ghost use Rattle.line.specs.Pieces.{enough};
+ghost use Rattle.line.specs.Encode.{encoded};
+ghost use Rattle.framing.specs.Payload.{data_of};
+ghost use Rattle.response.specs.Sizes.{groups_end};
+ghost use Rattle.commands.specs.Tag.{tag_read};
+ghost use Rattle.commands.specs.TagDescriptorDate.{fields_read};
+ghost use Rattle.commands.specs.Variables.{codes_read};
+ghost use Rattle.device.specs.Own.{own_tag, own_variable};
+ghost use Rattle.device.specs.Device.{same_text, status_alone, identifies, measures, recognizes, describes, rewrites, told_to, answer_to, answering};
+ghost use Rattle.device.specs.Code.{said_in, spoken_by};
+
+use commands::read_device_vars::DeviceVariable;
+use commands::{
+    Mode, read_device_id, read_device_vars, read_tag_descriptor_date, read_unique_id_by_tag,
+    write_tag_descriptor_date,
+};
+use framing::{Frame, PayloadVerdict, encode_frame};
+use octets::least;
+use own::{DAY, MONTH, YEAR, own_descriptor, own_identity, own_tag, own_variable};
+use refusal::Written;
+use response::{GROUPS_END, MAX_DEVICE_VARS, TAG_LENGTH};
+use types::consts::MIN_PREAMBLE_COUNT;
+use types::consts::commands::{
+    READ_DEVICE_ID, READ_DEVICE_VARS_WITH_STATUS, READ_TAG_DESCRIPTOR_DATE, READ_UNIQUE_ID_BY_TAG,
+    WRITE_TAG_DESCRIPTOR_DATE,
+};
+use types::{Address, FrameType};
+
+// HART's response codes.
+const TOO_FEW_BYTES: u8 = 5;
+
+const NOT_IMPLEMENTED: u8 = 64;
+
+// The first bytes of a payload are the response's data, or there is no response.
+#[derive(Clone, Copy)]
+enum Said {
+    Nothing,
+    First(usize),
+}
+
+fn said_in(written: Written) -> Said
+    ensures { result ≡ said_in written }
+{
+    match written {
+        Written::Count(n) => Said::First(n),
+        Written::Refused(_) => Said::Nothing,
+    }
+}
+
+fn tell_status(code: u8, payload: &mut [u8]) -> Said
+    requires { groups_end ≤ length payload.old }
+    ensures { spoken_by result payload.new ≡ status_alone code }
+{
+    payload[0] = code;
+    payload[1] = 0;
+    Said::First(2)
+}
+
+// Command 0. A frame that is no such request gets no answer.
+fn tell_identity(frame: Frame, payload: &mut [u8]) -> Said
+    requires { (groups_end ≤ length payload.old) × (frame.frame_type ≡ Request) × (frame.command ≡ 0) }
+    ensures { spoken_by result payload.new ≡ identifies }
+{
+    let verdict = read_device_id::read_request(frame);
+    match verdict {
+        PayloadVerdict::Carried => {
+            said_in(read_device_id::encode_response(0, 0, own_identity(), payload))
+        }
+        PayloadVerdict::Refused(_) => Said::Nothing,
+    }
+}
+
+// The variables of all eight codes, also of the zeros behind those that were asked for.
+fn variables_of(codes: [u8; MAX_DEVICE_VARS]) -> [DeviceVariable; MAX_DEVICE_VARS]
+    ensures { result ≡ map own_variable codes }
+{
+    let first = own_variable(0);
+    let mut variables = [first; MAX_DEVICE_VARS];
+    let mut i = 0;
+    while i < MAX_DEVICE_VARS {
+        variables[i] = own_variable(codes[i]);
+        i += 1;
+    }
+    variables
+}
+
+// Command 9: the variables that were asked for, in that order.
+fn tell_variables(frame: Frame, payload: &mut [u8]) -> Said
+    requires { (groups_end ≤ length payload.old) × (frame.frame_type ≡ Request) × (frame.command ≡ 9) }
+    ensures { spoken_by result payload.new ≡ measures (codes_read (data_of frame)) }
+{
+    let request = read_device_vars::read_request(frame);
+    let verdict = request.verdict;
+    match verdict {
+        PayloadVerdict::Carried => {
+            let codes = request.codes;
+            let variables = variables_of(codes);
+            said_in(read_device_vars::encode_response(0, 0, 0, variables, request.count, payload))
+        }
+        PayloadVerdict::Refused(_) => tell_status(TOO_FEW_BYTES, payload),
+    }
+}
+
+fn is_own(tag: [u8; TAG_LENGTH]) -> bool
+    ensures { result ≡ same_text tag own_tag }
+{
+    let own = own_tag();
+    let mut i = 0;
+    while i < TAG_LENGTH {
+        if tag[i] != own[i] {
+            return false;
+        }
+        i += 1;
+    }
+    true
+}
+
+// Command 11: another tag means another device, and that one answers.
+fn tell_if_tagged(frame: Frame, payload: &mut [u8]) -> Said
+    requires { (groups_end ≤ length payload.old) × (frame.frame_type ≡ Request) × (frame.command ≡ 11) }
+    ensures { spoken_by result payload.new ≡ recognizes (tag_read Standard (data_of frame)) }
+{
+    let request = read_unique_id_by_tag::read_request(Mode::Standard, frame);
+    let verdict = request.verdict;
+    match verdict {
+        PayloadVerdict::Carried => {
+            let tag = request.tag;
+            if is_own(tag) {
+                return said_in(read_unique_id_by_tag::encode_response(
+                    0,
+                    0,
+                    own_identity(),
+                    payload,
+                ));
+            }
+            Said::Nothing
+        }
+        PayloadVerdict::Refused(_) => tell_status(TOO_FEW_BYTES, payload),
+    }
+}
+
+// Command 13.
+fn tell_texts(frame: Frame, payload: &mut [u8]) -> Said
+    requires { (groups_end ≤ length payload.old) × (frame.frame_type ≡ Request) × (frame.command ≡ 13) }
+    ensures { spoken_by result payload.new ≡ describes }
+{
+    let verdict = read_tag_descriptor_date::read_request(frame);
+    match verdict {
+        PayloadVerdict::Carried => {
+            let tag = own_tag();
+            let descriptor = own_descriptor();
+            said_in(read_tag_descriptor_date::encode_response(
+                Mode::Standard,
+                0,
+                0,
+                tag,
+                descriptor,
+                DAY,
+                MONTH,
+                YEAR,
+                payload,
+            ))
+        }
+        PayloadVerdict::Refused(_) => Said::Nothing,
+    }
+}
+
+// Command 18: the fields as they were sent. The device is fixed, and keeps none of them.
+fn tell_back(frame: Frame, payload: &mut [u8]) -> Said
+    requires { (groups_end ≤ length payload.old) × (frame.frame_type ≡ Request) × (frame.command ≡ 18) }
+    ensures { spoken_by result payload.new ≡ rewrites (fields_read Standard (data_of frame)) }
+{
+    let request = write_tag_descriptor_date::read_request(Mode::Standard, frame);
+    let verdict = request.verdict;
+    match verdict {
+        PayloadVerdict::Carried => {
+            let tag = request.tag;
+            let descriptor = request.descriptor;
+            said_in(write_tag_descriptor_date::encode_response(
+                Mode::Standard,
+                0,
+                0,
+                tag,
+                descriptor,
+                request.day,
+                request.month,
+                request.year,
+                payload,
+            ))
+        }
+        PayloadVerdict::Refused(_) => tell_status(TOO_FEW_BYTES, payload),
+    }
+}
+
+fn tell_request(frame: Frame, payload: &mut [u8]) -> Said
+    requires { (groups_end ≤ length payload.old) × (frame.frame_type ≡ Request) }
+    ensures { spoken_by result payload.new ≡ told_to frame.command (data_of frame) }
+{
+    let command = frame.command;
+    match command {
+        READ_DEVICE_ID => tell_identity(frame, payload),
+        READ_DEVICE_VARS_WITH_STATUS => tell_variables(frame, payload),
+        READ_UNIQUE_ID_BY_TAG => tell_if_tagged(frame, payload),
+        READ_TAG_DESCRIPTOR_DATE => tell_texts(frame, payload),
+        WRITE_TAG_DESCRIPTOR_DATE => tell_back(frame, payload),
+        _ => tell_status(NOT_IMPLEMENTED, payload),
+    }
+}
+
+fn tell(frame: Frame, payload: &mut [u8]) -> Said
+    requires { groups_end ≤ length payload.old }
+    ensures { spoken_by result payload.new ≡ answer_to frame }
+{
+    let frame_type = frame.frame_type;
+    match frame_type {
+        FrameType::Request => tell_request(frame, payload),
+        FrameType::Response => Said::Nothing,
+        FrameType::Burst => Said::Nothing,
+    }
+}
+
+// The response with the first n of some bytes, or all of them.
+fn reply(address: Address, command: u8, bytes: &[u8], n: usize, out: &mut [u8]) -> Written
+    ensures { ends (reply_of result) out.new ≡ encoded Response address command (take n bytes.now) enough out.old }
+{
+    let count = least(n, bytes.len());
+    encode_frame(
+        FrameType::Response,
+        address,
+        command,
+        &bytes[..count],
+        MIN_PREAMBLE_COUNT,
+        out,
+    )
+}
+
+// Writes the response to the front of the buffer, and how many bytes that is: 0 where there is none.
+pub fn answer(frame: Frame, out: &mut [u8]) -> Written
+    ensures { ends (reply_of result) out.new ≡ answering frame out.old }
+{
+    let mut payload = [0u8; GROUPS_END];
+    let told = tell(frame, &mut payload);
+    let address = frame.address;
+    match told {
+        Said::Nothing => Written::Count(0),
+        Said::First(n) => reply(address, frame.command, &payload, n, out),
+    }
+}

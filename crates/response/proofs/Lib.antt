@@ -1,0 +1,5 @@
+pub mod Fields
+pub mod Weights
+pub mod Gathered
+pub mod Untouched
+pub mod Determined
