@@ -29,7 +29,7 @@ use Rattle.commands.specs.declared.read_device_vars.ReadDeviceVarsRequest.{ReadD
 use Rattle.commands.specs.declared.read_device_vars.ReadDeviceVarsResponse.{ReadDeviceVarsResponse}
 use Rattle.commands.specs.declared.read_unique_id_by_tag.ReadUniqueIdByTagRequest.{ReadUniqueIdByTagRequest}
 use Rattle.commands.specs.declared.tag_descriptor_date.TagDescriptorDate.{TagDescriptorDate}
-use Rattle.commands.specs.Identity.{identity_bytes, lowered, identified, identified_of, command0}
+use Rattle.commands.specs.Identity.{lowered_bytes, lowered, identified, identified_of, command0}
 use Rattle.commands.specs.Tag.{tag_requested, command11, reads_tag, tagged_of, request11}
 use Rattle.commands.specs.TagDescriptorDate.{tag_descriptor_date_layout, tag_descriptor_date_requested, reads_fields, fields_of, command13, command18}
 use Rattle.commands.specs.Variables.{no_variable, codes_requested, reads_variables, variables_of, command9, reads_codes, codes_of, request9}
@@ -56,10 +56,10 @@ module _ (h : Handed) where
     module _ (second : ℕ) (other : h.frame_type ≢ Request) where
       module _ (i : DeviceIdentity) (sent : Sent (identity_responded 0 second i) h count after) where
         pub bench_answered_0 : h.command ≡ 0 → (r : IdentityRead) → response-0.Post tt (frame, tt) r (frame, tt) → identified_of r ≡ identified (lowered i)
-        bench_answered_0 asked r promised = promised ∙ (bench_answered sent command0 asked second (identity_bytes i) (identity_leaves 0 second i) other).read ∙ identity_read_lowered i
+        bench_answered_0 asked r promised = promised ∙ (bench_answered sent command0 asked second (lowered_bytes i) (identity_leaves 0 second i) other).read ∙ identity_read_lowered i
 
         pub bench_answered_11 : h.command ≡ 11 → (r : IdentityRead) → response-11.Post tt (frame, tt) r (frame, tt) → identified_of r ≡ identified (lowered i)
-        bench_answered_11 asked r promised = promised ∙ (bench_answered sent command11 asked second (identity_bytes i) (identity_leaves 0 second i) other).read ∙ identity_read_lowered i
+        bench_answered_11 asked r promised = promised ∙ (bench_answered sent command11 asked second (lowered_bytes i) (identity_leaves 0 second i) other).read ∙ identity_read_lowered i
 
       pub bench_answered_9 : (extended : ℕ) (vs : List DeviceVariable) (n : ℕ) → length vs ≡ most_variables → n ≤ most_variables → AllLined vs n → Sent (variables_responded 0 second extended vs n) h count after → h.command ≡ 9
           → (r : ReadDeviceVarsResponse) → response-9.Post tt (Standard, (frame, tt)) r (Standard, (frame, tt)) → variables_of r ≡ reads_variables carries n (take n vs ++ replicate (most_variables - n) no_variable)

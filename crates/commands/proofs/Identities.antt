@@ -7,10 +7,10 @@ use lib.ListN.{length, get_or, take}
 use lib.Dec.{lit<}
 use borrow.Author.Tests.{lt-ltb, le-ltb}
 use Rattle.octets.specs.Digits.{Below, digits, from_digits}
-use Rattle.octets.proofs.Bases.{below_at, digits_from, from_digits_lem}
+use Rattle.octets.proofs.Bases.{below_at, digits_from, from_digits_lem, from_digits_whole}
 use Rattle.octets.proofs.Places.{taken}
 use Rattle.commands.specs.declared.identity.DeviceIdentity.{DeviceIdentity}
-use Rattle.commands.specs.Identity.{identity_at, identity_bytes, IdentityLimited, lowered, identified, unidentified, identity}
+use Rattle.commands.specs.Identity.{identity_at, identity_bytes, IdentityLimited, lowered, lowered_bytes, identified, unidentified, identity}
 use Rattle.response.specs.Sizes.{identity_size}
 
 module _ (bs : List ℕ) where
@@ -53,9 +53,8 @@ identity_back bs b h =
     let byte : (i : ℕ) → at i < 256 = below_at 256 bs b (lit< tt) in
     let type : digits 256 2 (from_digits 256 (at 1 ∷ at 2 ∷ [])) ≡ at 1 ∷ at 2 ∷ [] = digits_from 256 (at 1 ∷ at 2 ∷ []) (byte 1, (byte 2, tt)) in
     let number : digits 256 3 (from_digits 256 (at 9 ∷ at 10 ∷ at 11 ∷ [])) ≡ at 9 ∷ at 10 ∷ at 11 ∷ [] = digits_from 256 (at 9 ∷ at 10 ∷ at 11 ∷ []) (byte 9, (byte 10, (byte 11, tt))) in
-    let seventh : at 7 < 256 = byte 7 in
-    let shared : at 7 / 8 % 32 * 8 + at 7 % 8 % 8 ≡ at 7 = omega arith in
-    ap₂ (λ (x y : List ℕ). (at 0 ∷ x) ++ (at 3 ∷ at 4 ∷ at 5 ∷ at 6 ∷ []) ++ ((at 7 / 8 % 32 * 8 + at 7 % 8 % 8) ∷ at 8 ∷ y)) type number
+    let shared : at 7 / 8 * 8 + at 7 % 8 ≡ at 7 = omega arith in
+    ap₂ (λ (x y : List ℕ). (at 0 ∷ x) ++ (at 3 ∷ at 4 ∷ at 5 ∷ at 6 ∷ []) ++ ((at 7 / 8 * 8 + at 7 % 8) ∷ at 8 ∷ y)) type number
     ∙ ap (λ (x : ℕ). at 0 ∷ at 1 ∷ at 2 ∷ at 3 ∷ at 4 ∷ at 5 ∷ at 6 ∷ x ∷ at 8 ∷ at 9 ∷ at 10 ∷ at 11 ∷ []) shared
     ∙ sym (taken bs 0 0 identity_size h)
 
@@ -75,7 +74,7 @@ with_numbers i type hardware signalling number = record {
 }
 
 -- of any identity, what comes back from its bytes is lowered
-pub identity_lowered : (i : DeviceIdentity) (rest : List ℕ) → identity_at (identity_bytes i ++ rest) ≡ lowered i
+pub identity_lowered : (i : DeviceIdentity) (rest : List ℕ) → identity_at (lowered_bytes i ++ rest) ≡ lowered i
 identity_lowered i rest =
     let byte = i.hardware_revision % 32 * 8 + i.physical_signaling % 8 in
     let high : byte / 8 ≡ i.hardware_revision % 32 = omega arith in
@@ -93,5 +92,23 @@ lowered_same i (t, h, g, n) =
     ap₂ (λ (x y : ℕ). with_numbers i x y (i.physical_signaling % 2 ^ 3) (i.device_id % 2 ^ 24)) type hardware
     ∙ ap₂ (λ (x y : ℕ). with_numbers i i.expanded_device_type i.hardware_revision x y) signalling number
 
+-- the fields come back from their bytes, where each is one that its bits can hold
 pub fields_back : (i : DeviceIdentity) (rest : List ℕ) → IdentityLimited i → identity_at (identity_bytes i ++ rest) ≡ i
-fields_back i rest limits = identity_lowered i rest ∙ lowered_same i limits
+fields_back i rest (t, h, g, n) =
+    let made : ℕ → ℕ → ℕ → ℕ → DeviceIdentity = λ type hardware signalling number. record {
+      expansion_code = i.expansion_code;
+      expanded_device_type = type;
+      min_preamble_count = i.min_preamble_count;
+      hart_revision = i.hart_revision;
+      device_revision = i.device_revision;
+      software_revision = i.software_revision;
+      hardware_revision = hardware;
+      physical_signaling = signalling;
+      flags = i.flags;
+      device_id = number;
+    } in
+    let byte = i.hardware_revision * 8 + i.physical_signaling in
+    let high : byte / 8 ≡ i.hardware_revision = omega arith in
+    let low : byte % 8 ≡ i.physical_signaling = omega arith in
+    ap₂ (λ (x y : ℕ). made x (byte / 8) (byte % 8) y) (from_digits_whole 256 2 i.expanded_device_type (lit< tt) t) (from_digits_whole 256 3 i.device_id (lit< tt) n)
+    ∙ ap₂ (λ (x y : ℕ). made i.expanded_device_type x y i.device_id) high low

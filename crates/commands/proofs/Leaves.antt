@@ -10,7 +10,7 @@ use Rattle.packed_string.specs.Modes.{packed_text, bad_in, fields_written}
 use Rattle.response.specs.Sizes.{tag_size, status_size, most_variables}
 use Rattle.commands.specs.declared.identity.DeviceIdentity.{DeviceIdentity}
 use Rattle.commands.specs.declared.read_device_vars.DeviceVariable.{DeviceVariable}
-use Rattle.commands.specs.Identity.{identity_bytes}
+use Rattle.commands.specs.Identity.{lowered_bytes}
 use Rattle.commands.specs.Responses.{response_data, response_written, identity_responded, groups_bytes, variables_responded, tag_descriptor_date_responded}
 use Rattle.commands.specs.Tag.{tag_requested}
 use Rattle.commands.specs.TagDescriptorDate.{layout_size, tag_descriptor_date_layout, tag_descriptor_date_requested}
@@ -43,8 +43,8 @@ data_leaves first second bytes =
     leaves_either (λ buffer. ltb (length buffer) (length ds)) (leaves_refuses ds 2 []) (leaves_wrote ds)
 
 module _ (first second : ℕ) where
-  pub identity_leaves : (i : DeviceIdentity) → Leaves (response_data first second (identity_bytes i)) (identity_responded first second i)
-  identity_leaves i = data_leaves first second (identity_bytes i)
+  pub identity_leaves : (i : DeviceIdentity) → Leaves (response_data first second (lowered_bytes i)) (identity_responded first second i)
+  identity_leaves i = data_leaves first second (lowered_bytes i)
 
   pub variables_leaves : (extended : ℕ) (vs : List DeviceVariable) (n : ℕ) → Leaves (response_data first second (extended ∷ groups_bytes vs n)) (variables_responded first second extended vs n)
   unfolding variables_responded

@@ -22,7 +22,7 @@ use Rattle.response.specs.Sizes.{tag_length, tag_size, descriptor_length, group_
 use Rattle.commands.specs.declared.identity.DeviceIdentity.{DeviceIdentity}
 use Rattle.commands.specs.declared.read_device_vars.DeviceVariable.{DeviceVariable}
 use Rattle.commands.specs.Worth.{float_of}
-use Rattle.commands.specs.Identity.{identity_at, identity_bytes, IdentityLimited, lowered, identified, identity}
+use Rattle.commands.specs.Identity.{identity_at, lowered_bytes, IdentityLimited, lowered, identified, identity}
 use Rattle.commands.specs.Tag.{reads_tag, tag_read}
 use Rattle.commands.specs.TagDescriptorDate.{tag_descriptor_date_layout, reads_fields, fields_read}
 use Rattle.commands.specs.Variables.{variable, variable_at, group_bytes, groups_of, first_variables, no_variable, reads_variables, variables_read, reads_codes, codes_read}
@@ -54,11 +54,11 @@ texts_read mode tag descriptor day month year t d p q =
 
 -- the identity of commands 0 and 11
 module _ (i : DeviceIdentity) where
-  pub identity_read_lowered : identity (identity_bytes i) ≡ identified (lowered i)
+  pub identity_read_lowered : identity (lowered_bytes i) ≡ identified (lowered i)
   identity_read_lowered =
-      identity_whole (identity_bytes i) (omega arith) ∙ ap identified (ap identity_at (sym (append-nil (identity_bytes i))) ∙ identity_lowered i [])
+      identity_whole (lowered_bytes i) (omega arith) ∙ ap identified (ap identity_at (sym (append-nil (lowered_bytes i))) ∙ identity_lowered i [])
 
-  pub identity_read : IdentityLimited i → identity (identity_bytes i) ≡ identified i
+  pub identity_read : IdentityLimited i → identity (lowered_bytes i) ≡ identified i
   identity_read limits = identity_read_lowered ∙ ap identified (lowered_same i limits)
 
 -- what stands behind other bytes is read as if it stood alone

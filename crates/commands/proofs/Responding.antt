@@ -23,7 +23,7 @@ use Rattle.response.specs.declared.writer.ResponseFields.{ResponseFields}
 use Rattle.response.proofs.Gathered.{Gathered, gathered_none, gathered_as, gathered_with, gathered_written}
 use Rattle.commands.specs.declared.identity.DeviceIdentity.{DeviceIdentity}
 use Rattle.commands.specs.declared.read_device_vars.DeviceVariable.{DeviceVariable}
-use Rattle.commands.specs.Identity.{identity_bytes}
+use Rattle.commands.specs.Identity.{lowered_bytes}
 use Rattle.commands.specs.TagDescriptorDate.{texts_length, day_at, layout_size, tag_descriptor_date_layout}
 use Rattle.commands.proofs.tag_descriptor_date.Layouts.{length_both, length-layout, bad_in_tag, bad_beyond}
 use Rattle.commands.specs.Variables.{group_bytes, no_variable}
@@ -45,7 +45,7 @@ module _ (first second : ℕ) where
   status_gathered = gathered_with gathered_none (omega arith) Bytes (first ∷ second ∷ [])
 
   pub identity_responded_lem : (i : DeviceIdentity) (payload : List ℕ) → let fields = identity_fields first second i in responded (field_at fields) fields.count payload ≡ identity_responded first second i payload
-  identity_responded_lem i payload = textless_written (gathered_with status_gathered (omega arith) Bytes (identity_bytes i)) (omega arith) payload
+  identity_responded_lem i payload = textless_written (gathered_with status_gathered (omega arith) Bytes (lowered_bytes i)) (omega arith) payload
 
   module _ (extended : ℕ) (vs : List DeviceVariable) where
     -- as many groups as end in time

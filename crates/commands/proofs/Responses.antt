@@ -22,7 +22,7 @@ use Rattle.commands.specs.declared.tag_descriptor_date.TagDescriptorDate.{TagDes
 use Rattle.commands.specs.declared.read_device_vars.ReadDeviceVarsRequest.{ReadDeviceVarsRequest}
 use Rattle.commands.specs.declared.read_unique_id_by_tag.ReadUniqueIdByTagRequest.{ReadUniqueIdByTagRequest}
 use Rattle.framing.proofs.Requests.{asked_alone}
-use Rattle.framing.proofs.Responses.{heard_read}
+use Rattle.framing.proofs.Responses.{heard_read, heard_asked}
 use Rattle.commands.proofs.read_device_id.read_response.Reads as device-id-contract
 use Rattle.commands.proofs.read_tag_descriptor_date.read_response.Reads as texts-contract
 use Rattle.commands.proofs.read_device_id.read_request.Reads as device-id-request
@@ -56,16 +56,16 @@ module _ (ps : List Piece) (n : ℕ) (w : Wire) (hold : AllHold ps) (holds : Hol
   t = w.opening.frame_type
 
   pub device_id_asked : (r : PayloadVerdict) → device-id-request.Post tt ((heard_at_check ps n w).frame, tt) r ((heard_at_check ps n w).frame, tt) → judgement_of r ≡ asked 0 t w.command
-  device_id_asked r promised = promised ∙ (heard_read ps n w hold holds bytes (no_data 0)).asking ∙ asked_alone 0 t w.command w.payload
+  device_id_asked r promised = promised ∙ (heard_asked ps n w hold holds bytes (no_data 0)).asking ∙ asked_alone 0 t w.command w.payload
 
   pub texts_asked : (r : PayloadVerdict) → texts-request.Post tt ((heard_at_check ps n w).frame, tt) r ((heard_at_check ps n w).frame, tt) → judgement_of r ≡ asked 13 t w.command
-  texts_asked r promised = promised ∙ (heard_read ps n w hold holds bytes (no_data 13)).asking ∙ asked_alone 13 t w.command w.payload
+  texts_asked r promised = promised ∙ (heard_asked ps n w hold holds bytes (no_data 13)).asking ∙ asked_alone 13 t w.command w.payload
 
   pub variables_asked : (r : ReadDeviceVarsRequest) → variables-request.Post tt ((heard_at_check ps n w).frame, tt) r ((heard_at_check ps n w).frame, tt) → codes_of r ≡ asked_in request9 t w.command w.payload
-  variables_asked r promised = promised ∙ (heard_read ps n w hold holds bytes request9).asking
+  variables_asked r promised = promised ∙ (heard_asked ps n w hold holds bytes request9).asking
 
   pub identity_asked : (mode : Mode) (r : ReadUniqueIdByTagRequest) → identity-request.Post tt (mode, ((heard_at_check ps n w).frame, tt)) r (mode, ((heard_at_check ps n w).frame, tt)) → tagged_of r ≡ asked_in (request11 mode) t w.command w.payload
-  identity_asked mode r promised = promised ∙ (heard_read ps n w hold holds bytes (request11 mode)).asking
+  identity_asked mode r promised = promised ∙ (heard_asked ps n w hold holds bytes (request11 mode)).asking
 
   pub fields_asked : (mode : Mode) (r : TagDescriptorDate) → fields-request.Post tt (mode, ((heard_at_check ps n w).frame, tt)) r (mode, ((heard_at_check ps n w).frame, tt)) → fields_of r ≡ asked_in (command18 mode) t w.command w.payload
-  fields_asked mode r promised = promised ∙ (heard_read ps n w hold holds bytes (command18 mode)).asking
+  fields_asked mode r promised = promised ∙ (heard_asked ps n w hold holds bytes (command18 mode)).asking

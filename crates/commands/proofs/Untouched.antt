@@ -10,7 +10,7 @@ use Rattle.packed_string.specs.Modes.{packed_text, bad_in, fields_written}
 use Rattle.response.specs.Sizes.{tag_size, status_size, most_variables}
 use Rattle.commands.specs.declared.identity.DeviceIdentity.{DeviceIdentity}
 use Rattle.commands.specs.declared.read_device_vars.DeviceVariable.{DeviceVariable}
-use Rattle.commands.specs.Identity.{identity_bytes}
+use Rattle.commands.specs.Identity.{lowered_bytes}
 use Rattle.commands.specs.Responses.{response_data, response_written, identity_responded, groups_bytes, variables_responded, tag_descriptor_date_responded}
 use Rattle.commands.specs.Tag.{tag_requested}
 use Rattle.commands.specs.TagDescriptorDate.{layout_size, tag_descriptor_date_layout, tag_descriptor_date_requested}
@@ -45,7 +45,7 @@ data_untouched first second bytes =
     untouched_either (λ buffer. ltb (length buffer) (length ds)) (untouched_refuses 2 []) (untouched_wrote ds)
 
 pub identity_untouched : (first second : ℕ) (i : DeviceIdentity) → Untouched (identity_responded first second i)
-identity_untouched first second i = data_untouched first second (identity_bytes i)
+identity_untouched first second i = data_untouched first second (lowered_bytes i)
 
 pub variables_untouched : (first second extended : ℕ) (vs : List DeviceVariable) (n : ℕ) → Untouched (variables_responded first second extended vs n)
 unfolding variables_responded

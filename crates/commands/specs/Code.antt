@@ -7,14 +7,14 @@ use Rattle.response.specs.declared.field.Kind.TheVariants.{Bytes, Group, Text}
 use Rattle.response.specs.declared.writer.ResponseFields.{ResponseFields}
 use Rattle.commands.specs.declared.identity.DeviceIdentity.{DeviceIdentity}
 use Rattle.commands.specs.declared.read_device_vars.DeviceVariable.{DeviceVariable}
-use Rattle.commands.specs.Identity.{identity_bytes}
+use Rattle.commands.specs.Identity.{lowered_bytes}
 use Rattle.commands.specs.Variables.{group_bytes, no_variable}
 
 abbrev pub status_field : ℕ → ℕ → ResponseFields
 status_field first second = with_field no_fields (field_of Bytes (first ∷ second ∷ []))
 
 abbrev pub identity_fields : ℕ → ℕ → DeviceIdentity → ResponseFields
-identity_fields first second i = with_field (status_field first second) (field_of Bytes (identity_bytes i))
+identity_fields first second i = with_field (status_field first second) (field_of Bytes (lowered_bytes i))
 
 abbrev pub variables_fields : ℕ → ℕ → ℕ → List DeviceVariable → ℕ → ResponseFields
 variables_fields first second extended vs zero = with_field (status_field first second) (field_of Bytes (extended ∷ []))

@@ -8,7 +8,7 @@ use Rattle.response.specs.Sizes.{status_size, most_variables}
 use Rattle.commands.specs.declared.identity.DeviceIdentity.{DeviceIdentity}
 use Rattle.commands.specs.declared.read_device_vars.DeviceVariable.{DeviceVariable}
 use Rattle.commands.specs.Worth.{float_of}
-use Rattle.commands.specs.Identity.{identity_bytes}
+use Rattle.commands.specs.Identity.{lowered_bytes}
 use Rattle.commands.specs.TagDescriptorDate.{layout_size, tag_descriptor_date_layout}
 use Rattle.commands.specs.Variables.{group_bytes, no_variable}
 
@@ -24,7 +24,7 @@ response_written first second payload buffer =
 
 -- commands 0 and 11: the identity
 abbrev pub identity_responded : ℕ → ℕ → DeviceIdentity → List ℕ → Outcome
-identity_responded first second i buffer = response_written first second (identity_bytes i) buffer
+identity_responded first second i buffer = response_written first second (lowered_bytes i) buffer
 
 -- command 9, in the standard layout: the extended status byte, then the groups of the first n variables; 1 for more than eight
 abbrev pub groups_bytes : List DeviceVariable → ℕ → List ℕ

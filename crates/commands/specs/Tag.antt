@@ -3,7 +3,7 @@ use Rattle.std.specs.Prelude.{ℕ, cond, List, [], length, take, replicate, ltb}
 use Rattle.refusal.specs.Outcome.{Outcome}
 use Rattle.packed_string.specs.declared.text_group.Mode.{Mode}
 use Rattle.framing.specs.Payload.{Judgement, carries, withheld, judgement_of, Reader}
-use Rattle.commands.specs.Identity.{Identified, identity_reader}
+use Rattle.commands.specs.Identity.{Identified, unidentified, identity}
 use Rattle.commands.specs.declared.read_unique_id_by_tag.ReadUniqueIdByTagRequest.{ReadUniqueIdByTagRequest}
 use Rattle.packed_string.specs.Modes.{packed_text, unpacked_text, fields_written}
 use Rattle.response.specs.Sizes.{tag_length, tag_size}
@@ -14,7 +14,7 @@ tag_requested mode tag buffer = fields_written mode tag_size tag (packed_text mo
 
 -- The response is an identity.
 abbrev pub command11 : Reader Identified
-command11 = identity_reader 11
+command11 = record { number = 11; read = identity; refuse = unidentified }
 
 -- what reading a request comes to: carried or refused, and the tag
 pub data Tagged : Type 0 where

@@ -59,7 +59,7 @@ abbrev pub texts_reader : ℕ → Mode → Reader Fields
 texts_reader wanted mode = record { number = wanted; read = fields_read mode; refuse = fields_refused }
 
 abbrev pub command18 : Mode → Reader Fields
-command18 mode = texts_reader 18 mode
+command18 mode = record { number = 18; read = fields_read mode; refuse = fields_refused }
 
 -- The response of command 13 has command 18's layout.
 abbrev pub command13 : Mode → Reader Fields

@@ -4,7 +4,7 @@ ghost use Rattle.std.specs.Prelude.{◌≡◌, ◌≤◌, length};
 ghost use Rattle.refusal.specs.Outcome.{ends, reply_of};
 ghost use Rattle.framing.specs.Payload.{typed_in};
 ghost use Rattle.commands.specs.Responses.{identity_responded};
-ghost use Rattle.commands.specs.Identity.{identity_at, identity_bytes, identified_of, identity, identity_reader};
+ghost use Rattle.commands.specs.Identity.{identity_at, lowered_bytes, identified_of, identity, identity_reader};
 ghost use Rattle.response.specs.Sizes.{identity_size};
 
 use framing::{PayloadVerdict, payload_part, typed_verdict};
@@ -65,7 +65,7 @@ impl DeviceIdentity {
 
     // The bits of a number that the line has no room for are lost.
     pub fn encode(self) -> [u8; IDENTITY_SIZE]
-        ensures { result ≡ identity_bytes self }
+        ensures { result ≡ lowered_bytes self }
     {
         let device_type = encode_u16_be(self.expanded_device_type);
         let number = encode_u24_be(self.device_id);

@@ -22,7 +22,7 @@ use Rattle.framing.specs.Bench.{Sent, Hears}
 use Rattle.framing.proofs.Bench.{bench_answered}
 use Rattle.response.specs.Sizes.{groups_end}
 use Rattle.commands.specs.declared.identity.IdentityRead.{IdentityRead}
-use Rattle.commands.specs.Identity.{identity_bytes, lowered, identified, identified_of, command0}
+use Rattle.commands.specs.Identity.{lowered_bytes, lowered, identified, identified_of, command0}
 use Rattle.commands.specs.Responses.{response_data, identity_responded}
 use Rattle.commands.proofs.Leaves.{identity_leaves}
 use Rattle.commands.proofs.Bench.{bench_answered_0}
@@ -54,7 +54,7 @@ module _ (f : Frame) where
       by (speaks ds) e = encoded_untouched Response f.address f.command ds enough buffer number values after e
 
 abbrev own_data : List ℕ
-own_data = response_data 0 0 (identity_bytes own_identity)
+own_data = response_data 0 0 (lowered_bytes own_identity)
 
 pub own_bytes : Bytes own_data
 unfolding own_identity
@@ -101,7 +101,7 @@ module _ (f : Frame) (asks : f.frame_type ≡ Request) (zero : f.command ≡ 0) 
 
     -- a new decoder of the host hears the response, and its `read_response` gives the device's identity
     pub answer_heard_lem : Hears replied count after
-    answer_heard_lem = (bench_answered sent command0 zero 0 (identity_bytes own_identity) (identity_leaves 0 0 own_identity) other_type).heard
+    answer_heard_lem = (bench_answered sent command0 zero 0 (lowered_bytes own_identity) (identity_leaves 0 0 own_identity) other_type).heard
 
     pub answer_read : (r : IdentityRead) → response-0.Post tt ((heard_back replied).frame, tt) r ((heard_back replied).frame, tt) → identified_of r ≡ identified own_identity
     answer_read r promised = bench_answered_0 replied 0 other_type own_identity sent zero r promised ∙ ap identified own_lowered

@@ -16,7 +16,7 @@ use Rattle.packed_string.proofs.Texts.{fields_fit}
 use Rattle.response.specs.Sizes.{group_size, most_variables, status_size, groups_end}
 use Rattle.commands.specs.declared.identity.DeviceIdentity.{DeviceIdentity}
 use Rattle.commands.specs.declared.read_device_vars.DeviceVariable.{DeviceVariable}
-use Rattle.commands.specs.Identity.{identity_bytes}
+use Rattle.commands.specs.Identity.{lowered_bytes}
 use Rattle.commands.specs.TagDescriptorDate.{layout_size, tag_descriptor_date_layout}
 use Rattle.commands.specs.Variables.{group_bytes, no_variable}
 use Rattle.commands.specs.Responses.{response_data, response_written, identity_responded, groups_bytes, variables_responded, tag_descriptor_date_responded}
@@ -42,8 +42,8 @@ module _ (before : List ℕ) (room : groups_end ≤ length before) where
   unfolding response_written
   data_written first second bytes h = rw (le-ltb (length before) (length (response_data first second bytes)) (omega arith))
 
-  pub identity_written : (i : DeviceIdentity) → identity_responded 0 0 i before ≡ wrote (response_data 0 0 (identity_bytes i)) before
-  identity_written i = data_written 0 0 (identity_bytes i) (omega arith)
+  pub identity_written : (i : DeviceIdentity) → identity_responded 0 0 i before ≡ wrote (response_data 0 0 (lowered_bytes i)) before
+  identity_written i = data_written 0 0 (lowered_bytes i) (omega arith)
 
   pub variables_written : (vs : List DeviceVariable) (n : ℕ) → n ≤ most_variables → variables_responded 0 0 0 vs n before ≡ wrote (response_data 0 0 (0 ∷ groups_bytes vs n)) before
   unfolding variables_responded

@@ -8,7 +8,7 @@ use Rattle.line.specs.Pieces.{enough}
 use Rattle.line.specs.Encode.{encoded}
 use Rattle.line.specs.declared.frame.Frame.{Frame}
 use Rattle.framing.specs.Payload.{carries, withheld, data_of}
-use Rattle.commands.specs.Identity.{identity_bytes}
+use Rattle.commands.specs.Identity.{lowered_bytes}
 use Rattle.commands.specs.Responses.{response_data, groups_bytes}
 use Rattle.commands.specs.Tag.{Tagged, reads_tag, tag_read}
 use Rattle.commands.specs.TagDescriptorDate.{tag_descriptor_date_layout, Fields, reads_fields, fields_read}
@@ -30,7 +30,7 @@ too_few = status_alone 5
 
 -- command 0: the identity
 abbrev pub identifies : Spoken
-identifies = speaks (response_data 0 0 (identity_bytes own_identity))
+identifies = speaks (response_data 0 0 (lowered_bytes own_identity))
 
 -- command 9: the extended status 0, and a group for each code that was asked for, in their order, the first eight; 5 for none
 abbrev pub measures : Codes → Spoken

@@ -17,8 +17,8 @@ use Rattle.line.specs.machine.Frames.{frame_of}
 use Rattle.line.specs.declared.frame.Frame.{Frame}
 use Rattle.framing.specs.declared.payload.PayloadVerdict.{PayloadVerdict}
 use Rattle.framing.specs.declared.payload.PayloadVerdict.TheVariants.{Carried, Refused}
-use Rattle.framing.specs.Payload.{Judgement, carries, withheld, judgement_of, Reader, passed_on}
-use Rattle.framing.specs.Requests.{request_judgement, asked, asked_in, asked_of, no_data}
+use Rattle.framing.specs.Payload.{Judgement, carries, withheld, judgement_of, Reader}
+use Rattle.framing.specs.Requests.{read_on, request_judgement, asked, asked_in, asked_of, no_data}
 use Rattle.framing.proofs.Payloads.{frame_data}
 
 module _ (wanted : ℕ) (t : FrameType) (command : ℕ) where
@@ -32,9 +32,9 @@ module _ (wanted : ℕ) (t : FrameType) (command : ℕ) where
 
 module _ {A : Type 0} (k : Reader A) where
   module _ (t : FrameType) (command : ℕ) (ds : List ℕ) where
-    judged_as : {j : Judgement} → asked k.number t command ≡ j → asked_in k t command ds ≡ passed_on k j ds
+    judged_as : {j : Judgement} → asked k.number t command ≡ j → asked_in k t command ds ≡ read_on k j ds
     unfolding asked_in
-    judged_as e = ap (λ (j : Judgement). passed_on k j ds) e
+    judged_as e = ap (λ (j : Judgement). read_on k j ds) e
 
     pub asked_carried : command ≡ k.number → t ≡ Request → asked_in k t command ds ≡ k.read ds
     asked_carried same e = judged_as (asked_same k.number t command same ∙ ap request_judgement e)
@@ -42,13 +42,13 @@ module _ {A : Type 0} (k : Reader A) where
     -- 6 comes before whatever the data would get
     pub asked_of_other : command ≢ k.number → asked_in k t command ds ≡ k.refuse 6 []
     unfolding asked_in
-    asked_of_other n = ap (λ (j : Judgement). passed_on k j ds) (asked_other k.number t command n)
+    asked_of_other n = ap (λ (j : Judgement). read_on k j ds) (asked_other k.number t command n)
 
     pub asked_of_no_request : t ≢ Request → asked_in k t command ds ≡ k.refuse 6 []
     unfolding asked_in asked
     asked_of_no_request = by t (eqb command k.number)
       where
-        by : (u : FrameType) (same : Bool) → u ≢ Request → passed_on k (cond same (request_judgement u) (withheld 6 [])) ds ≡ k.refuse 6 []
+        by : (u : FrameType) (same : Bool) → u ≢ Request → read_on k (cond same (request_judgement u) (withheld 6 [])) ds ≡ k.refuse 6 []
         by Request same other = absurd (other refl)
         by Response true other = refl
         by Response false other = refl
@@ -78,7 +78,7 @@ pub asked_alone : (wanted : ℕ) (t : FrameType) (command : ℕ) (ds : List ℕ)
 unfolding asked_in
 asked_alone wanted t command ds = by (asked wanted t command)
   where
-    by : (j : Judgement) → passed_on (no_data wanted) j ds ≡ j
+    by : (j : Judgement) → read_on (no_data wanted) j ds ≡ j
     by carries = refl
     by (withheld number values) = refl
 

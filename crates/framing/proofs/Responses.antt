@@ -13,7 +13,7 @@ use Rattle.line.specs.declared.frame.Heard.{Heard}
 use Rattle.framing.specs.Feed.{fresh_decoder}
 use Rattle.framing.specs.Demand.{decoder_hears}
 use Rattle.framing.specs.Payload.{Reader, typed_in, typed_of}
-use Rattle.framing.specs.Responses.{heard_at_check, HeardRead}
+use Rattle.framing.specs.Responses.{heard_at_check, HeardRead, HeardAsked}
 use Rattle.framing.proofs.Demand.{answered}
 use Rattle.framing.proofs.Payloads.{carries_exactly}
 use Rattle.framing.specs.Requests.{asked_of}
@@ -94,6 +94,9 @@ module _ (ps : List Piece) (n : ℕ) (w : Wire) (hold : AllHold ps) (holds : Hol
       record {
         answer = ap (λ (h : Heard). h.answer) heard_at_check_lem;
         reading = here;
-        asking = ap (λ (h : Heard). asked_of k h.frame) heard_at_check_lem ∙ asks_wire k w;
         response = λ r. here ∙ typed_carried k t w.command ds r.asked ((carries_exactly t ds).1 (r.sent, r.statuses, r.clean));
       }
+
+  -- and whatever a device reads
+  pub heard_asked : {A : Type 0} (k : Reader A) → HeardAsked k ps n w
+  heard_asked k = record { asking = ap (λ (h : Heard). asked_of k h.frame) heard_at_check_lem ∙ asks_wire k w }

@@ -23,9 +23,9 @@ use Rattle.framing.proofs.Payloads.{typed_same, typed_other, typed_part, frame_d
 module _ {A : Type 0} (k : Reader A) where
   -- by what the data are judged for
   module _ (t : FrameType) (command : ℕ) (ds : List ℕ) where
-    judged_as : {j : Judgement} → typed k.number t command ds ≡ j → typed_in k t command ds ≡ passed_on k j (drop 2 ds)
+    judged_as : {j : Judgement} → typed k.number t command ds ≡ j → typed_in k t command ds ≡ passed_on k j ds
     unfolding typed_in
-    judged_as e = ap (λ (j : Judgement). passed_on k j (drop 2 ds)) e
+    judged_as e = ap (λ (j : Judgement). passed_on k j ds) e
 
     pub typed_of_other : command ≢ k.number → typed_in k t command ds ≡ k.refuse 6 []
     typed_of_other n = judged_as (typed_other k.number t command ds n)
@@ -41,7 +41,7 @@ module _ {A : Type 0} (k : Reader A) where
   unfolding typed_in typed payload_judgement
   typed_of_request command ds = by (eqb command k.number)
     where
-      by : (same : Bool) → passed_on k (cond same (withheld 6 []) (withheld 6 [])) (drop 2 ds) ≡ k.refuse 6 []
+      by : (same : Bool) → passed_on k (cond same (withheld 6 []) (withheld 6 [])) ds ≡ k.refuse 6 []
       by true = refl
       by false = refl
 

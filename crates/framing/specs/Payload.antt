@@ -52,14 +52,14 @@ pub record Reader (A : Type 0) : Type 0 where
   pub read : List ℕ → A
   pub refuse : ℕ → List ℕ → A
 
--- it takes the judgement apart: what is carried is read, and a refusal is passed on as it is
+-- it takes the judgement apart: what is carried, behind the status bytes, is read, and a refusal is passed on as it is
 abbrev pub passed_on : {A : Type 0} → Reader A → Judgement → List ℕ → A
-passed_on k carries bs = k.read bs
-passed_on k (withheld number values) bs = k.refuse number values
+passed_on k carries ds = k.read (drop 2 ds)
+passed_on k (withheld number values) ds = k.refuse number values
 
--- the typed reading of a frame's type, command and data: the payload stands behind the status bytes
+-- the typed reading of a frame's type, command and data
 unfoldable pub typed_in : {A : Type 0} → Reader A → FrameType → ℕ → List ℕ → A
-typed_in k t command ds = passed_on k (typed k.number t command ds) (drop 2 ds)
+typed_in k t command ds = passed_on k (typed k.number t command ds) ds
 
 -- a frame's own data: the first `length` bytes of its array, without the zeros behind them
 abbrev pub data_of : Frame → List ℕ

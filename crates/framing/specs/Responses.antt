@@ -22,10 +22,13 @@ pub record Responds (wanted : ℕ) (w : Wire) : Type 0 where
   pub statuses : 2 ≤ length w.payload
   pub clean : get_or w.payload 0 0 ≡ 0
 
--- a frame is found there, and a command's typed reading of it gives what its definition says of the payload as it stands on the line,
--- and so does a device's reading; of an answer to that command, all behind the two status bytes is read
+-- a frame is found there, and a command's typed reading of it gives what its definition says of the payload as it stands on the line;
+-- of an answer to that command, all behind the two status bytes is read
 pub record HeardRead {A : Type 0} (k : Reader A) (ps : List Piece) (n : ℕ) (w : Wire) : Type 0 where
   pub answer : (heard_at_check ps n w).answer ≡ Found
   pub reading : typed_of k (heard_at_check ps n w).frame ≡ typed_in k w.opening.frame_type w.command w.payload
-  pub asking : asked_of k (heard_at_check ps n w).frame ≡ asked_in k w.opening.frame_type w.command w.payload
   pub response : Responds k.number w → typed_of k (heard_at_check ps n w).frame ≡ k.read (drop 2 w.payload)
+
+-- and document 02, 1/12: a device's reading of it gives what its definition says of the data as they stand on the line
+pub record HeardAsked {A : Type 0} (k : Reader A) (ps : List Piece) (n : ℕ) (w : Wire) : Type 0 where
+  pub asking : asked_of k (heard_at_check ps n w).frame ≡ asked_in k w.opening.frame_type w.command w.payload
