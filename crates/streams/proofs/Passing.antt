@@ -21,7 +21,7 @@ pub record GoesOn {S : Type 0} (after : S → List ℕ → S) (said : S → List
 module _ {S : Type 0} {after : S → List ℕ → S} {said : S → List ℕ → List ℕ} (goes : GoesOn after said) where
   -- nothing yet
   pub passes_none : (s : S) (src : List ℕ) → PassesOn after said s src s 0 (handover 0 0)
-  passes_none s src = record { within = omega arith; behind = sym (goes.after_none s); whole = sym (ap length (goes.said-none s)); answered = omega arith }
+  passes_none s src = record { within = omega arith; behind = sym (goes.after_none s); whole = sym (ap length (goes.said_none s)); answered = omega arith }
 
   -- some bytes, and some of the rest
   pub passes_more : {first s next : S} {src part : List ℕ} {used k : ℕ} {h j : Handover}
@@ -35,7 +35,7 @@ module _ {S : Type 0} {after : S → List ℕ → S} {said : S → List ℕ → 
       let there : said s (take k part) ≡ said (after first (take used src)) more = ap₂ said p.behind same in
       record {
         within = fits;
-        behind = r.behind ∙ ap₂ after p.behind same ∙ sym (goes.after-append first (take used src) more) ∙ ap (after first) (sym cut);
+        behind = r.behind ∙ ap₂ after p.behind same ∙ sym (goes.after_append first (take used src) more) ∙ ap (after first) (sym cut);
         whole = omega (arith, p.whole, r.whole, ap length there, all);
         answered = omega (arith, p.answered, r.answered);
       }
@@ -49,7 +49,7 @@ module _ {S : Type 0} {after : S → List ℕ → S} {said : S → List ℕ → 
       record {
         run = b.run ++ take used src;
         counted = length-append b.run (take used src) ∙ omega (arith, b.counted, length-take-le used src p.within);
-        leads = p.behind ∙ ap (λ (x : S). after x (take used src)) b.leads ∙ sym (goes.after-append first b.run (take used src));
+        leads = p.behind ∙ ap (λ (x : S). after x (take used src)) b.leads ∙ sym (goes.after_append first b.run (take used src));
       }
 
 pub used_below : {S : Type 0} {after : S → List ℕ → S} {said : S → List ℕ → List ℕ} (k : ℕ) (src : List ℕ) {s next : S} {used : ℕ} {h : Handover} → PassesOn after said s (take k src) next used h → used ≤ length src

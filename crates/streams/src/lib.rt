@@ -1,12 +1,13 @@
 // Standard input and output, for the programs that pass on what they read. What a call of the system answers is
 // nobody's promise; here it is proved that no more is counted than was handed over, and which answers end the
-// reading. Rattle has no exit status: what goes wrong is said on standard error, in the caller's words.
+// reading. What goes wrong is said on standard error, in the caller's words.
 #![tactic(auto)]
 
-ghost use Rattle.std.specs.Prelude.{◌≡◌, true, false, ◌&&◌, ◌≤◌, eqb, pos, length};
+ghost use Rattle.std.specs.Prelude.{◌≡◌, true, false, ◌&&◌, ◌≤◌, ◌<◌, ◌^◌, IfOk, IfErr, eqb, pos, length};
 ghost use Rattle.std.specs.Int.Signed.{lt_z};
 
-use libc::STDOUT_FILENO;
+use std::io::{Error, ErrorKind};
+use std::thread;
 
 // Bytes to a read.
 pub const READ_SIZE: usize = 65536;
@@ -22,15 +23,35 @@ pub struct Handover {
     pub took: usize,
 }
 
+// What the system answered to a read or a write, in one number: how many bytes it moved, and below 0 the number
+// of the error where it failed.
+pub fn answer(moved: Result<usize, Error>) -> isize
+    requires { IfOk moved (λ n. n < 2 ^ 63) }
+    ensures moves { IfOk moved (λ n. result ≡ pos n) }
+    ensures fails { IfErr moved (λ _. lt_z result (pos 0) ≡ true) }
+{
+    match moved {
+        Ok(n) => n as isize,
+        Err(error) => match error.raw_os_error() {
+            Some(number) if number > 0 => -(number as isize),
+            _ => -1,
+        },
+    }
+}
+
+fn error_of(got: isize) -> Error {
+    Error::from_raw_os_error(i32::try_from(got.unsigned_abs()).unwrap_or(0))
+}
+
 // Whether a call that answered so is to be made again: one that failed, but only because nothing was there
 // yet, or no room, on a descriptor that does not wait, or because a signal came first.
 fn again(got: isize) -> bool
     ensures { result ≡ true → lt_z got (pos 0) ≡ true }
 {
     if got < 0 {
-        let error = os::errno();
-        if (error == libc::EAGAIN) | (error == libc::EINTR) {
-            libc::sched_yield();
+        let kind = error_of(got).kind();
+        if matches!(kind, ErrorKind::WouldBlock | ErrorKind::Interrupted) {
+            thread::yield_now();
             return true;
         }
     }
@@ -38,17 +59,17 @@ fn again(got: isize) -> bool
 }
 
 // All of the bytes, in as many calls as it takes; these are counted down as the reads are.
-pub fn print(bytes: &[u8], unwritten: &[u8]) -> Handover
+pub fn print(rt: &(impl Print + Eprint), bytes: &[u8], unwritten: &str) -> Handover
     ensures { (result.asked ≡ length bytes.now) × (result.took ≤ result.asked) }
 {
     let mut took: usize = 0;
     let mut calls = u64::MAX;
     while (took < bytes.len()) & (calls > 0) {
-        let got = libc::write(STDOUT_FILENO, &bytes[took..]);
+        let got = answer(rt.write_some(&bytes[took..]));
         let more = io::count(got, bytes);
         if more == 0 {
             if !again(got) {
-                os::fail(unwritten);
+                let _ = eprintln!(rt; "{unwritten}: {}", error_of(got));
                 return Handover {
                     asked: bytes.len(),
                     took,
@@ -64,15 +85,15 @@ pub fn print(bytes: &[u8], unwritten: &[u8]) -> Handover
     }
 }
 
-// Whether there is to be another read. No system call may stand between the read and this.
-pub fn goes_on(got: isize, handover: Handover, unread: &[u8]) -> bool
+// Whether there is to be another read.
+pub fn goes_on(rt: &impl Eprint, got: isize, handover: Handover, unread: &str) -> bool
     ensures { lt_z got (pos 0) ≡ false → result ≡ lt_z (pos 0) got && eqb handover.took handover.asked }
 {
     if got < 0 {
         if again(got) {
             return true;
         }
-        os::fail(unread);
+        let _ = eprintln!(rt; "{unread}: {}", error_of(got));
         return false;
     }
     (got > 0) & (handover.took == handover.asked)

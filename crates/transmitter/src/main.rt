@@ -2,7 +2,7 @@
 // standard output, each response as soon as the request's last byte was read. What is answered is proved of the
 // library `device`. Here it is proved that the bytes of each read are fed to one decoder, once and in order, and each
 // answer handed to the system; what is left to trust are the calls of the system themselves, the read in `read_on` and
-// the write in `print`. Rattle has no exit status: what goes wrong is said on standard error.
+// the write in `print`. What goes wrong is said on standard error.
 #![tactic(auto)]
 
 ghost use Rattle.std.specs.Prelude.{◌≡◌, false, ◌&&◌, ◌≤◌, eqb, pos, length, take};
@@ -12,11 +12,11 @@ ghost use Rattle.framing.specs.Feed.{fresh_decoder};
 ghost use Rattle.device.specs.Conversation.{answer_room, answer_bytes, answer_heard, listening, answers_along};
 ghost use Rattle.streams.specs.Passing.{read_size, HandsOver, PassesOn, ReadsAll};
 
-use device::answer;
+use device::answer as answer_to;
 use framing::{Answer, Decoder, Frame, Heard};
-use libc::{STDERR_FILENO, STDIN_FILENO};
 use refusal::Written;
-use streams::{Handover, READ_SIZE, READS};
+use std::io::Read;
+use streams::{Handover, READ_SIZE, READS, answer};
 use types::consts::MAX_FRAME_LENGTH;
 
 // The decoder behind the bytes that were used, how many those are, and what became of the answers to them.
@@ -45,38 +45,35 @@ struct Ran {
     handover: Handover,
 }
 
-fn tell_uncounted() {
-    io::write_all(
-        STDERR_FILENO,
-        b"transmitter: more reads than can be counted\n",
-    );
+fn tell_uncounted(rt: &impl Eprint) {
+    let _ = eprintln!(rt; "transmitter: more reads than can be counted");
 }
 
-fn print(bytes: &[u8]) -> Handover
+fn print(rt: &(impl Print + Eprint), bytes: &[u8]) -> Handover
     ensures { (result.asked ≡ length bytes.now) × (result.took ≤ result.asked) }
 {
-    streams::print(bytes, b"transmitter: cannot write to standard output")
+    streams::print(rt, bytes, "transmitter: cannot write to standard output")
 }
 
-fn goes_on(got: isize, handover: Handover) -> bool
+fn goes_on(rt: &impl Eprint, got: isize, handover: Handover) -> bool
     ensures { lt_z got (pos 0) ≡ false → result ≡ lt_z (pos 0) got && eqb handover.took handover.asked }
 {
-    streams::goes_on(got, handover, b"transmitter: cannot read standard input")
+    streams::goes_on(rt, got, handover, "transmitter: cannot read standard input")
 }
 
 // The answer to a frame, which may be none: then no call of the system is made.
-fn respond(frame: Frame, out: &mut [u8]) -> Handover
+fn respond(rt: &(impl Print + Eprint), frame: Frame, out: &mut [u8]) -> Handover
     requires { answer_room ≤ length out.old }
     ensures { HandsOver (answer_bytes frame) out.new result }
 {
-    match answer(frame, out) {
-        Written::Count(n) => print(&out[..n]),
+    match answer_to(frame, out) {
+        Written::Count(n) => print(rt, &out[..n]),
         Written::Refused(_) => Handover { asked: 0, took: 0 },
     }
 }
 
 // A device says nothing to what is no frame.
-fn turn(heard: Heard, out: &mut [u8]) -> Handover
+fn turn(rt: &(impl Print + Eprint), heard: Heard, out: &mut [u8]) -> Handover
     requires { answer_room ≤ length out.old }
     ensures { HandsOver (answer_heard heard) out.new result }
 {
@@ -85,14 +82,14 @@ fn turn(heard: Heard, out: &mut [u8]) -> Handover
         Answer::Silence => Handover { asked: 0, took: 0 },
         Answer::Found => {
             let frame = heard.frame;
-            respond(frame, out)
+            respond(rt, frame, out)
         }
         Answer::Refused(_) => Handover { asked: 0, took: 0 },
     }
 }
 
 // The answers to all bytes of a read, unless the system does not take one.
-fn listen(decoder: Decoder, src: &[u8], out: &mut [u8]) -> Passed
+fn listen(rt: &(impl Print + Eprint), decoder: Decoder, src: &[u8], out: &mut [u8]) -> Passed
     requires answer_room_in_bounds { answer_room ≤ length out.old }
     requires src_len_bound { length src.now ≤ read_size }
     ensures passes_on { PassesOn listening answers_along decoder src.now result.decoder result.used result.handover }
@@ -105,7 +102,7 @@ fn listen(decoder: Decoder, src: &[u8], out: &mut [u8]) -> Passed
     while (used < src.len()) & (took == asked) {
         let fed = decoder.feed(src[used]);
         decoder = fed.next;
-        let handover = turn(fed.heard, out);
+        let handover = turn(rt, fed.heard, out);
         used += 1;
         asked += handover.asked;
         took += handover.took;
@@ -118,20 +115,26 @@ fn listen(decoder: Decoder, src: &[u8], out: &mut [u8]) -> Passed
 }
 
 // The bytes of the next read, and the answers to them.
-fn read_on(decoder: Decoder, input: &mut [u8], out: &mut [u8]) -> Went
+fn read_on(
+    rt: &(impl Print + Eprint),
+    from: &mut impl Read,
+    decoder: Decoder,
+    input: &mut [u8],
+    out: &mut [u8],
+) -> Went
     requires answer_room_in_bounds { answer_room ≤ length out.old }
     requires input_len_bound { length input.old ≤ read_size }
     ensures n_value { result.n ≡ clamp_len result.got (length input.new) }
     ensures passes_on { PassesOn listening answers_along decoder (take result.n input.new) result.passed.decoder result.passed.used result.passed.handover }
     ensures used_value { result.passed.handover.took ≡ result.passed.handover.asked → result.passed.used ≡ length (take result.n input.new) }
 {
-    let got = libc::read(STDIN_FILENO, input);
+    let got = answer(from.read(input));
     let n = io::count(got, input);
-    let passed = listen(decoder, &input[..n], out);
+    let passed = listen(rt, decoder, &input[..n], out);
     Went { got, n, passed }
 }
 
-fn run(input: &mut [u8], out: &mut [u8]) -> Ran
+fn run(rt: &(impl Print + Eprint), from: &mut impl Read, input: &mut [u8], out: &mut [u8]) -> Ran
     requires answer_room_in_bounds { answer_room ≤ length out.old }
     requires input_len_bound { length input.old ≤ read_size }
     ensures { ReadsAll listening fresh_decoder result.decoder result.heard result.got result.handover }
@@ -140,14 +143,14 @@ fn run(input: &mut [u8], out: &mut [u8]) -> Ran
     let mut heard: u64 = 0;
     let mut reads = READS;
     while reads > 0 {
-        let went = read_on(decoder, input, out);
+        let went = read_on(rt, from, decoder, input, out);
         let got = went.got;
         let passed = went.passed;
         let handover = passed.handover;
         decoder = passed.decoder;
         heard += passed.used as u64;
         reads -= 1;
-        if !goes_on(got, handover) {
+        if !goes_on(rt, got, handover) {
             return Ran {
                 heard,
                 decoder,
@@ -156,7 +159,7 @@ fn run(input: &mut [u8], out: &mut [u8]) -> Ran
             };
         }
     }
-    tell_uncounted();
+    tell_uncounted(rt);
     Ran {
         heard,
         decoder,
@@ -165,8 +168,8 @@ fn run(input: &mut [u8], out: &mut [u8]) -> Ran
     }
 }
 
-fn main() {
+fn main(rt: HostRuntime) {
     let mut input = [0u8; READ_SIZE];
     let mut out = [0u8; MAX_FRAME_LENGTH];
-    run(&mut input, &mut out);
+    run(&rt, &mut rt.stdin(), &mut input, &mut out);
 }
