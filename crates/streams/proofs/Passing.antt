@@ -6,7 +6,7 @@ use mathlib.Core.List.{List, [], ◌++◌}
 use lib.ListN.{length, take, drop, length-append, take-append-drop}
 use lib.Seq.{take-add, length-take-le}
 use Rattle.streams.specs.declared.Handover.{Handover}
-use Rattle.streams.specs.Passing.{PassesOn, Behind}
+use Rattle.streams.specs.Passing.{PassesFront, BehindRun}
 
 abbrev pub handover : ℕ → ℕ → Handover
 handover asked took = record { asked = asked; took = took }
@@ -20,13 +20,13 @@ pub record GoesOn {S : Type 0} (after : S → List ℕ → S) (said : S → List
 
 module _ {S : Type 0} {after : S → List ℕ → S} {said : S → List ℕ → List ℕ} (goes : GoesOn after said) where
   -- nothing yet
-  pub passes_none : (s : S) (src : List ℕ) → PassesOn after said s src s 0 (handover 0 0)
+  pub passes_none : (s : S) (src : List ℕ) → PassesFront after said s src s 0 (handover 0 0)
   passes_none s src = record { within = omega arith; behind = sym (goes.after_none s); whole = sym (ap length (goes.said_none s)); answered = omega arith }
 
   -- some bytes, and some of the rest
   pub passes_more : {first s next : S} {src part : List ℕ} {used k : ℕ} {h j : Handover}
-      → PassesOn after said first src s used h → PassesOn after said s part next k j → take k part ≡ take k (drop used src) → used + k ≤ length src
-      → PassesOn after said first src next (used + k) (handover (h.asked + j.asked) (h.took + j.took))
+      → PassesFront after said first src s used h → PassesFront after said s part next k j → take k part ≡ take k (drop used src) → used + k ≤ length src
+      → PassesFront after said first src next (used + k) (handover (h.asked + j.asked) (h.took + j.took))
   passes_more {first} {s} {next} {src} {part} {used} {k} {h} {j} p r same fits =
       let more : List ℕ = take k (drop used src) in
       let cut : take (used + k) src ≡ take used src ++ more = take-add used k src in
@@ -41,10 +41,10 @@ module _ {S : Type 0} {after : S → List ℕ → S} {said : S → List ℕ → 
       }
 
   -- a state behind a run, and bytes that are passed on to it
-  pub behind_none : (s : S) → Behind after s s 0
+  pub behind_none : (s : S) → BehindRun after s s 0
   behind_none s = record { run = []; counted = omega arith; leads = sym (goes.after_none s) }
 
-  pub behind_more : {first s next : S} {n used : ℕ} {src : List ℕ} {h : Handover} → Behind after first s n → PassesOn after said s src next used h → Behind after first next (n + used)
+  pub behind_more : {first s next : S} {n used : ℕ} {src : List ℕ} {h : Handover} → BehindRun after first s n → PassesFront after said s src next used h → BehindRun after first next (n + used)
   behind_more {first} {s} {next} {n} {used} {src} b p =
       record {
         run = b.run ++ take used src;
@@ -52,5 +52,5 @@ module _ {S : Type 0} {after : S → List ℕ → S} {said : S → List ℕ → 
         leads = p.behind ∙ ap (λ (x : S). after x (take used src)) b.leads ∙ sym (goes.after_append first b.run (take used src));
       }
 
-pub used_below : {S : Type 0} {after : S → List ℕ → S} {said : S → List ℕ → List ℕ} (k : ℕ) (src : List ℕ) {s next : S} {used : ℕ} {h : Handover} → PassesOn after said s (take k src) next used h → used ≤ length src
+pub used_below : {S : Type 0} {after : S → List ℕ → S} {said : S → List ℕ → List ℕ} (k : ℕ) (src : List ℕ) {s next : S} {used : ℕ} {h : Handover} → PassesFront after said s (take k src) next used h → used ≤ length src
 used_below k src p = omega (arith, p.within, length-append (take k src) (drop k src), ap length (take-append-drop k src))

@@ -16,20 +16,20 @@ pub record HandsOver (bytes out : List ℕ) (h : Handover) : Type 0 where
 
 -- of the bytes some at the front are used: the state is the one behind just these, and as many bytes as there are to say of them were
 -- handed over
-pub record PassesOn {S : Type 0} (after : S → List ℕ → S) (said : S → List ℕ → List ℕ) (before : S) (src : List ℕ) (next : S) (used : ℕ) (h : Handover) : Type 0 where
+pub record PassesFront {S : Type 0} (after : S → List ℕ → S) (said : S → List ℕ → List ℕ) (before : S) (src : List ℕ) (next : S) (used : ℕ) (h : Handover) : Type 0 where
   pub within : used ≤ length src
   pub behind : next ≡ after before (take used src)
   pub whole : h.asked ≡ length (said before (take used src))
   pub answered : h.took ≤ h.asked
 
 -- a state behind some run of so many bytes
-pub record Behind {S : Type 0} (after : S → List ℕ → S) (first next : S) (bytes : ℕ) : Type 0 where
+pub record BehindRun {S : Type 0} (after : S → List ℕ → S) (first next : S) (bytes : ℕ) : Type 0 where
   pub run : List ℕ
   pub counted : length run ≡ bytes
   pub leads : next ≡ after first run
 
 -- the state is the one behind all bytes that were used; and a read that brought bytes is the last one only where not all was taken of
 -- what was handed over for them
-pub record ReadsAll {S : Type 0} (after : S → List ℕ → S) (first next : S) (heard : ℕ) (got : ℤ) (h : Handover) : Type 0 where
-  pub behind : Behind after first next heard
+pub record PassesAll {S : Type 0} (after : S → List ℕ → S) (first next : S) (heard : ℕ) (got : ℤ) (h : Handover) : Type 0 where
+  pub behind : BehindRun after first next heard
   pub stopped : lt_z (pos 0) got ≡ true → h.took ≡ h.asked → ⊥

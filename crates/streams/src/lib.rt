@@ -6,7 +6,7 @@
 ghost use Rattle.std.specs.Prelude.{◌≡◌, true, false, ◌&&◌, ◌≤◌, ◌<◌, ◌^◌, IfOk, IfErr, eqb, pos, length};
 ghost use Rattle.std.specs.Int.Signed.{lt_z};
 
-use std::io::{Error, ErrorKind};
+use std::io::{Error, ErrorKind, Read};
 use std::thread;
 
 // Bytes to a read.
@@ -25,7 +25,7 @@ pub struct Handover {
 
 // What the system answered to a read or a write, in one number: how many bytes it moved, and below 0 the number
 // of the error where it failed.
-pub fn answer(moved: Result<usize, Error>) -> isize
+fn answer(moved: Result<usize, Error>) -> isize
     requires { IfOk moved (λ n. n < 2 ^ 63) }
     ensures moves { IfOk moved (λ n. result ≡ pos n) }
     ensures fails { IfErr moved (λ _. lt_z result (pos 0) ≡ true) }
@@ -37,6 +37,13 @@ pub fn answer(moved: Result<usize, Error>) -> isize
             _ => -1,
         },
     }
+}
+
+// What the system answered to a read, no more than there was room for.
+pub fn read(from: &mut impl Read, input: &mut [u8]) -> isize
+    ensures { lt_z (pos (length input.new)) result ≡ false }
+{
+    answer(from.read(input))
 }
 
 fn error_of(got: isize) -> Error {

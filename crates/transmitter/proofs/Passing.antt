@@ -20,7 +20,7 @@ use Rattle.device.specs.Conversation.{answer_room, answer_bytes, answer_beside, 
 use Rattle.device.proofs.Room.{answer_short, answer_fits, never_too_long}
 use Rattle.device.proofs.Along.{answers-append}
 use Rattle.streams.specs.declared.Handover.{Handover}
-use Rattle.streams.specs.Passing.{HandsOver, PassesOn}
+use Rattle.streams.specs.Passing.{HandsOver, PassesFront}
 use Rattle.streams.proofs.Passing.{GoesOn, handover, passes_more}
 
 pub device_goes : GoesOn listening answers_along
@@ -41,11 +41,11 @@ found_answered x {out} {h} e s = subst (λ (a : Answer). HandsOver (answer_besid
 
 -- one byte more
 pub passes_byte : {first d : Decoder} {src : List ℕ} {used : ℕ} {h j : Handover} {out : List ℕ} {f : Fed}
-    → PassesOn listening answers_along first src d used h → used < length src → f ≡ fed d (get_or src used 0) → HandsOver (answer_heard f.heard) out j
-    → PassesOn listening answers_along first src f.next (used + 1) (handover (h.asked + j.asked) (h.took + j.took))
+    → PassesFront listening answers_along first src d used h → used < length src → f ≡ fed d (get_or src used 0) → HandsOver (answer_heard f.heard) out j
+    → PassesFront listening answers_along first src f.next (used + 1) (handover (h.asked + j.asked) (h.took + j.took))
 passes_byte {first} {d} {src} {used} {h} {j} {out} {f} p k e s =
     let b = get_or src used 0 in
-    let one : PassesOn listening answers_along d (b ∷ []) f.next 1 j = record {
+    let one : PassesFront listening answers_along d (b ∷ []) f.next 1 j = record {
       within = omega arith;
       behind = ap (λ (x : Fed). x.next) e;
       whole = s.whole ∙ ap (λ (x : Fed). length (answer_heard x.heard)) e ∙ ap length (sym (append-nil (answer_heard (fed d b).heard)));

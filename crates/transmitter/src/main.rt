@@ -1,8 +1,8 @@
 // Plays a transmitter: hears what a host sends on standard input, and writes what one fixed device answers to
 // standard output, each response as soon as the request's last byte was read. What is answered is proved of the
 // library `device`. Here it is proved that the bytes of each read are fed to one decoder, once and in order, and each
-// answer handed to the system; what is left to trust are the calls of the system themselves, the read in `read_on` and
-// the write in `print`. What goes wrong is said on standard error.
+// answer handed to the system; what is left to trust are the calls of the system themselves, the read in `read` and
+// the write in `print` of the library `streams`. What goes wrong is said on standard error.
 #![tactic(auto)]
 
 ghost use Rattle.std.specs.Prelude.{◌≡◌, false, ◌&&◌, ◌≤◌, eqb, pos, length, take};
@@ -10,13 +10,13 @@ ghost use Rattle.std.specs.Int.Signed.{lt_z};
 ghost use Rattle.io.specs.Counts.{clamp_len};
 ghost use Rattle.framing.specs.Feed.{fresh_decoder};
 ghost use Rattle.device.specs.Conversation.{answer_room, answer_bytes, answer_heard, listening, answers_along};
-ghost use Rattle.streams.specs.Passing.{read_size, HandsOver, PassesOn, ReadsAll};
+ghost use Rattle.streams.specs.Passing.{read_size, HandsOver, PassesFront, PassesAll};
 
 use device::answer as answer_to;
 use framing::{Answer, Decoder, Frame, Heard};
 use refusal::Written;
 use std::io::Read;
-use streams::{Handover, READ_SIZE, READS, answer};
+use streams::{Handover, READ_SIZE, READS};
 use types::consts::MAX_FRAME_LENGTH;
 
 // The decoder behind the bytes that were used, how many those are, and what became of the answers to them.
@@ -92,7 +92,7 @@ fn turn(rt: &(impl Print + Eprint), heard: Heard, out: &mut [u8]) -> Handover
 fn listen(rt: &(impl Print + Eprint), decoder: Decoder, src: &[u8], out: &mut [u8]) -> Passed
     requires answer_room_in_bounds { answer_room ≤ length out.old }
     requires src_len_bound { length src.now ≤ read_size }
-    ensures passes_on { PassesOn listening answers_along decoder src.now result.decoder result.used result.handover }
+    ensures passes_on { PassesFront listening answers_along decoder src.now result.decoder result.used result.handover }
     ensures used_value { result.handover.took ≡ result.handover.asked → result.used ≡ length src.now }
 {
     let mut decoder = decoder;
@@ -125,10 +125,10 @@ fn read_on(
     requires answer_room_in_bounds { answer_room ≤ length out.old }
     requires input_len_bound { length input.old ≤ read_size }
     ensures n_value { result.n ≡ clamp_len result.got (length input.new) }
-    ensures passes_on { PassesOn listening answers_along decoder (take result.n input.new) result.passed.decoder result.passed.used result.passed.handover }
+    ensures passes_on { PassesFront listening answers_along decoder (take result.n input.new) result.passed.decoder result.passed.used result.passed.handover }
     ensures used_value { result.passed.handover.took ≡ result.passed.handover.asked → result.passed.used ≡ length (take result.n input.new) }
 {
-    let got = answer(from.read(input));
+    let got = streams::read(from, input);
     let n = io::count(got, input);
     let passed = listen(rt, decoder, &input[..n], out);
     Went { got, n, passed }
@@ -137,7 +137,7 @@ fn read_on(
 fn run(rt: &(impl Print + Eprint), from: &mut impl Read, input: &mut [u8], out: &mut [u8]) -> Ran
     requires answer_room_in_bounds { answer_room ≤ length out.old }
     requires input_len_bound { length input.old ≤ read_size }
-    ensures { ReadsAll listening fresh_decoder result.decoder result.heard result.got result.handover }
+    ensures { PassesAll listening fresh_decoder result.decoder result.heard result.got result.handover }
 {
     let mut decoder = Decoder::new();
     let mut heard: u64 = 0;
