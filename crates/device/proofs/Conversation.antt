@@ -1,6 +1,6 @@
 -- What a host can rely on, whatever the frame: a device's frame gets no answer, and a refused call writes nothing; and what the host reads
 -- of the answer to command 0.
-use Prim.Native.Nat.{ℕ, ◌<◌}
+use Prim.Native.Nat.{ℕ}
 use native.Mathlib.Omega.{arith}
 use mathlib.Core.Path.{◌≡◌, refl, sym, ap, ◌∙◌}
 use mathlib.Core.Logic.{◌≢◌}

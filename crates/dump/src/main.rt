@@ -1,11 +1,11 @@
 // Prints a line for each frame and each refusal in the bytes of standard input, and at their end the
 // totals: document 01, 'Examples'. What the lines are is proved of the library. Here it is proved that
 // the bytes of each read are handed to it, once and in order, and its lines to the system; what is left
-// to trust are the calls of the system themselves, the read in `read_on` and the write in `print`.
+// to trust are the calls of the system themselves, in `read` and `print` of streams.
 // What goes wrong is said on standard error, and then there is no last line.
 #![tactic(auto)]
 
-ghost use Rattle.std.specs.Prelude.{◌≡◌, ◌≤◌, ◌<◌, ◌^◌, length, take, IfOk, IfErr, eqb, pos, true, false, ◌&&◌};
+ghost use Rattle.std.specs.Prelude.{◌≡◌, ◌≤◌, ◌<◌, length, take, eqb, pos, false, ◌&&◌};
 ghost use Rattle.std.specs.Int.Signed.{lt_z};
 ghost use Rattle.io.specs.Counts.{clamp_len};
 ghost use Rattle.dump_lines.specs.Text.{line_max};
@@ -14,8 +14,8 @@ ghost use Rattle.dump.specs.Passing.{PassesOn, TellsEnd, ReadsAll};
 
 use dump_lines::Dump;
 use refusal::Written;
-use std::io::{Error, ErrorKind, Read};
-use std::thread;
+use std::io::Read;
+use streams::Handover;
 
 // Bytes to a read, and to a write.
 const SIZE: usize = 65536;
@@ -64,77 +64,18 @@ struct Finished {
     end: Sent,
 }
 
-// What the system answered to a read or a write, in one number: how many bytes it moved, and below 0 the number
-// of the error where it failed.
-fn answer(moved: Result<usize, Error>) -> isize
-    requires { IfOk moved (λ n. n < 2 ^ 63) }
-    ensures moves { IfOk moved (λ n. result ≡ pos n) }
-    ensures fails { IfErr moved (λ _. lt_z result (pos 0) ≡ true) }
-{
-    match moved {
-        Ok(n) => n as isize,
-        Err(error) => match error.raw_os_error() {
-            Some(number) if number > 0 => -(number as isize),
-            _ => -1,
-        },
-    }
-}
-
-fn error_of(got: isize) -> Error {
-    Error::from_raw_os_error(i32::try_from(got.unsigned_abs()).unwrap_or(0))
-}
-
-fn tell_unread(rt: &impl Eprint, got: isize) {
-    let _ = eprintln!(rt; "dump: cannot read standard input: {}", error_of(got));
-}
-
-fn tell_unwritten(rt: &impl Eprint, got: isize) {
-    let _ = eprintln!(rt; "dump: cannot write to standard output: {}", error_of(got));
-}
-
 fn tell_uncounted(rt: &impl Eprint) {
     let _ = eprintln!(rt; "dump: more reads than can be counted");
 }
 
-// Whether a call that answered so is to be made again: one that failed, but only because nothing was there
-// yet, or no room, on a descriptor that does not wait, or because a signal came first.
-fn again(got: isize) -> bool
-    ensures { result ≡ true → lt_z got (pos 0) ≡ true }
-{
-    if got < 0 {
-        let kind = error_of(got).kind();
-        if matches!(kind, ErrorKind::WouldBlock | ErrorKind::Interrupted) {
-            thread::yield_now();
-            return true;
-        }
-    }
-    false
-}
-
-// All of the bytes, in as many calls as it takes; these are counted down as the reads are.
+// All of the bytes, in as many calls as it takes.
 fn print(rt: &(impl Print + Eprint), bytes: &[u8]) -> Sent
     ensures { (result.asked ≡ length bytes.now) × (result.took ≤ result.asked) }
 {
-    let mut took: usize = 0;
-    let mut calls = u64::MAX;
-    while (took < bytes.len()) & (calls > 0) {
-        let got = answer(rt.write_some(&bytes[took..]));
-        let more = io::count(got, bytes);
-        if more == 0 {
-            if !again(got) {
-                tell_unwritten(rt, got);
-                return Sent {
-                    asked: bytes.len(),
-                    took,
-                };
-            }
-        }
-        took += more;
-        calls -= 1;
-    }
+    let handover = streams::print(rt, bytes, "dump: cannot write to standard output");
     Sent {
-        asked: bytes.len(),
-        took,
+        asked: handover.asked,
+        took: handover.took,
     }
 }
 
@@ -207,7 +148,7 @@ fn read_on(
     ensures passes_on { PassesOn dump (take result.n input.new) result.passed }
     ensures used_value { result.passed.sent.took ≡ result.passed.sent.asked → result.passed.used ≡ length (take result.n input.new) }
 {
-    let got = answer(from.read(input));
+    let got = streams::read(from, input);
     let n = io::count(got, input);
     let passed = print_lines(rt, dump, &input[..n], out);
     Went { got, n, passed }
@@ -217,14 +158,11 @@ fn read_on(
 fn goes_on(rt: &impl Eprint, got: isize, sent: Sent) -> bool
     ensures { lt_z got (pos 0) ≡ false → result ≡ lt_z (pos 0) got && eqb sent.took sent.asked }
 {
-    if got < 0 {
-        if again(got) {
-            return true;
-        }
-        tell_unread(rt, got);
-        return false;
-    }
-    (got > 0) & (sent.took == sent.asked)
+    let handover = Handover {
+        asked: sent.asked,
+        took: sent.took,
+    };
+    streams::goes_on(rt, got, handover, "dump: cannot read standard input")
 }
 
 fn read_all(

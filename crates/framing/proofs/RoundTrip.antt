@@ -1,6 +1,6 @@
 -- What the encoder wrote is heard: behind five preamble bytes or more, wherever whole pieces stand before it; behind fewer it is not.
 -- No machine is argued about: the written bytes are the bytes of a piece, and a run has one cut.
-use Prim.Native.Nat.{ℕ, ◌+◌, ◌-◌, ◌≤◌, ◌<◌}
+use Prim.Native.Nat.{ℕ, ◌-◌, ◌≤◌, ◌<◌}
 use native.Mathlib.Omega.{arith}
 use mathlib.Core.Path.{◌≡◌, sym, ap, ap₂, subst, ◌∙◌}
 use mathlib.Core.Logic.{◌≢◌}

@@ -1,5 +1,5 @@
 // The payload of a response or a burst frame: document 01, 'Commands'. The verdict and the part are
-// two functions, since an enum holds no slice. Beside them the verdict of a device on a request (document 02,
+// two functions: an enum held no slice when they were made. Beside them the verdict of a device on a request (document 02,
 // 1/12), whose data are the payload.
 ghost use Rattle.std.specs.Prelude.{◌≡◌};
 ghost use Rattle.octets.specs.Part.{part_of};

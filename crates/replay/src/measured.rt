@@ -1,4 +1,4 @@
-// What a measured value is worth, letter m. A float's bits cannot be had in Rattle, so the variable's bits
+// What a measured value is worth, letter m. A float gives its bits only where it is no NaN, so the variable's bits
 // are shown if the reading's float and the variable's value are the float that is made of them here, by
 // arithmetic alone: where the library reads bits otherwise the answer is `other`.
 use crate::text::{OUT_SIZE, put_bytes, put_text};

@@ -1,5 +1,6 @@
 -- By the command.
 use Prim.Native.Nat.{ℕ}
+use native.Mathlib.Omega.{arith}
 use mathlib.Core.Path.{sym, ap, ◌∙◌}
 use Rattle.framing.specs.Payload.{data_of}
 use Rattle.device.specs.Device.{told_to}
@@ -28,6 +29,5 @@ returns-in-18 c = c.tell_back.ensures ∙ sym (ap (λ (n : ℕ). told_to n (data
 
 pub returns-in_default : goal.returns-in_default
 returns-in_default c =
-    let n = c.in_default.in_default-own.rest in
     let f = c.args.frame in
-    c.tell_status.ensures ∙ sym (told_other f.command (data_of f) n.0.0.0.0.1 n.0.0.0.1 n.0.0.1 n.0.1 n.1)
+    c.tell_status.ensures ∙ sym (told_other f.command (data_of f) (λ e. omega (arith, e)) (λ e. omega (arith, e)) (λ e. omega (arith, e)) (λ e. omega (arith, e)) (λ e. omega (arith, e)))

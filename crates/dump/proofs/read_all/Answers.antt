@@ -1,6 +1,7 @@
 -- The bytes of a read stand behind all before. An answer that brings bytes is the last one only where their lines were not all taken.
 use Rattle.std.proofs.Common.{◌≤◌, arith, to_z, of_z, w64}
-use Rattle.dump.proofs.Answers.{both_ways, goes_further}
+use Rattle.octets.proofs.Tests.{both_ways}
+use Rattle.streams.proofs.Answers.{goes_further}
 use Rattle.dump.proofs.Passing.{behind_more, used_below}
 use Rattle.dump.proofs.read_all.Goals as goal
 

@@ -1,5 +1,4 @@
-use mathlib.Core.Path.{◌≡◌, ap₂, ◌∙◌}
-use Rattle.line.specs.declared.frame.Heard.{Heard}
+use mathlib.Core.Path.{ap₂, ◌∙◌}
 use Rattle.framing.specs.declared.decode.Decoder.{Decoder}
 use Rattle.lent.specs.declared.keep.Kept.{Kept}
 use Rattle.lent.proofs.Listening.{listening, begun, listening_is}

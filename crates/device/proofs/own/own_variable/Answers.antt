@@ -1,4 +1,5 @@
 -- Each code by its case, and any other by none.
+use native.Mathlib.Omega.{arith}
 use mathlib.Core.Path.{sym, ap, ◌∙◌}
 use Rattle.device.specs.Own.{own_variable}
 use Rattle.device.proofs.Variables.{variable_none}
@@ -22,5 +23,4 @@ returns-in-3 c = c.variable-in-3.ensures ∙ sym (ap own_variable c.in-3.is)
 
 pub returns-in_default : goal.returns-in_default
 returns-in_default c =
-    let r = c.in_default.in_default-own.rest in
-    c.variable-in_default.ensures ∙ sym (variable_none c.args.code r.0.0.0.1 r.0.0.1 r.0.1 r.1)
+    c.variable-in_default.ensures ∙ sym (variable_none c.args.code (λ e. omega (arith, e)) (λ e. omega (arith, e)) (λ e. omega (arith, e)) (λ e. omega (arith, e)))

@@ -2,8 +2,7 @@
 use Prim.Native.Nat.{ℕ, ◌+◌, ◌-◌}
 use native.Mathlib.Omega.{arith}
 use mathlib.Core.Path.{◌≡◌, ap, ◌∙◌}
-use mathlib.Core.List.{List, ◌++◌}
-use lib.ListN.{length, take, drop, replicate, length-take}
+use lib.ListN.{take, drop, replicate, length-take}
 use Rattle.octets.specs.Put.{put_if_fits}
 use Rattle.types.specs.Address.{head_room}
 use Rattle.line.specs.machine.Room.{data_room}

@@ -31,5 +31,5 @@ pub returns-in_default : goal.returns-in_default
 returns-in_default c =
     let a = c.args in
     let number : exponent a.bits ≡ 255 → ⊥ = λ e. c.if-bits-eq255.false (omega (arith, e)) in
-    let two : quality a.status ≡ 2 = omega (arith, c.in_default.in_default-own.rest.0.1, c.in_default.in_default-own.rest.1) in
+    let two : quality a.status ≡ 2 = omega arith in
     ap fixed c.value_of-value.ensures ∙ sym (worth_fixed a.status a.bits number two)
