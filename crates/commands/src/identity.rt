@@ -9,7 +9,7 @@ ghost use Rattle.response.specs.Sizes.{identity_size};
 
 use framing::{PayloadVerdict, payload_part, typed_verdict};
 use octets::{decode_u16_be, decode_u24_be, encode_u16_be, encode_u24_be};
-use refusal::{Refusal, Written};
+use refusal::Refusal;
 use response::{Field, IDENTITY_SIZE, ResponseFields, write_response};
 use types::FrameType;
 
@@ -108,7 +108,7 @@ pub(crate) fn write_identity(
     second: u8,
     identity: DeviceIdentity,
     payload: &mut [u8],
-) -> Written
+) -> Result<usize, Refusal>
     ensures { ends (reply_of result) payload.new ≡ identity_responded first second identity payload.old }
 {
     let status = Field::status(first, second);

@@ -9,15 +9,15 @@ ghost use Rattle.commands.specs.Responses.{identity_responded};
 
 use crate::identity::{DeviceIdentity, IdentityRead, read_identity, write_identity};
 use framing::{Frame, PayloadVerdict, request_verdict};
-use refusal::Written;
+use refusal::Refusal;
 use types::FrameType;
 use types::consts::commands::READ_DEVICE_ID;
 
 // A request carries no data.
-pub fn encode_data(buf: &mut [u8]) -> Written
+pub fn encode_data(buf: &mut [u8]) -> Result<usize, Refusal>
     ensures { ends (reply_of result) buf.new ≡ wrote [] buf.old }
 {
-    Written::Count(0)
+    Ok(0)
 }
 
 pub fn decode_data(data: &[u8]) -> IdentityRead
@@ -64,7 +64,7 @@ pub fn encode_response(
     second: u8,
     identity: DeviceIdentity,
     payload: &mut [u8],
-) -> Written
+) -> Result<usize, Refusal>
     ensures { ends (reply_of result) payload.new ≡ identity_responded first second identity payload.old }
 {
     write_identity(first, second, identity, payload)

@@ -17,7 +17,7 @@ use crate::reading::{Reading, value_of};
 use framing::{Frame, PayloadVerdict, payload_part, request_verdict, typed_verdict};
 use octets::{copy_into, decode_u32_be, encode_u32_be, least};
 use packed_string::Mode;
-use refusal::{Refusal, Written};
+use refusal::Refusal;
 pub use response::MAX_DEVICE_VARS;
 use response::{Field, GROUP_SIZE, ResponseFields, write_response};
 use types::FrameType;
@@ -78,17 +78,17 @@ impl DeviceVariable {
 }
 
 // Writes the codes of the variables that are asked for.
-pub fn encode_data(slot_codes: &[u8], buf: &mut [u8]) -> Written
+pub fn encode_data(slot_codes: &[u8], buf: &mut [u8]) -> Result<usize, Refusal>
     ensures { ends (reply_of result) buf.new ≡ codes_requested slot_codes.now buf.old }
 {
     if slot_codes.len() > MAX_DEVICE_VARS {
-        return Written::Refused(Refusal::DataTooLong);
+        return Err(Refusal::DataTooLong);
     }
     if buf.len() < slot_codes.len() {
-        return Written::Refused(Refusal::BufferTooSmall);
+        return Err(Refusal::BufferTooSmall);
     }
     copy_into(slot_codes, buf, 0);
-    Written::Count(slot_codes.len())
+    Ok(slot_codes.len())
 }
 
 fn variable_at(data: &[u8], base: usize) -> DeviceVariable
@@ -295,12 +295,12 @@ pub fn encode_response(
     variables: [DeviceVariable; MAX_DEVICE_VARS],
     count: u8,
     payload: &mut [u8],
-) -> Written
+) -> Result<usize, Refusal>
     ensures { ends (reply_of result) payload.new ≡ variables_responded first second extended variables count payload.old }
 {
     let n = count as usize;
     if n > MAX_DEVICE_VARS {
-        return Written::Refused(Refusal::DataTooLong);
+        return Err(Refusal::DataTooLong);
     }
     let fields = fields_of(first, second, extended, variables, n);
     write_response(fields, payload)

@@ -12,16 +12,16 @@ use crate::tag_descriptor_date::{
 };
 use framing::{Frame, PayloadVerdict, request_verdict};
 use packed_string::Mode;
-use refusal::Written;
+use refusal::Refusal;
 use response::{DESCRIPTOR_LENGTH, TAG_LENGTH};
 use types::FrameType;
 use types::consts::commands::READ_TAG_DESCRIPTOR_DATE;
 
 // A request carries no data.
-pub fn encode_data(buf: &mut [u8]) -> Written
+pub fn encode_data(buf: &mut [u8]) -> Result<usize, Refusal>
     ensures { ends (reply_of result) buf.new ≡ wrote [] buf.old }
 {
-    Written::Count(0)
+    Ok(0)
 }
 
 pub fn decode_data(mode: Mode, data: &[u8]) -> TagDescriptorDate
@@ -73,7 +73,7 @@ pub fn encode_response(
     month: u8,
     year: u8,
     payload: &mut [u8],
-) -> Written
+) -> Result<usize, Refusal>
     ensures { ends (reply_of result) payload.new ≡ tag_descriptor_date_responded mode first second tag descriptor day month year payload.old }
 {
     write_texts_and_date(

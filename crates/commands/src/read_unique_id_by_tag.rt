@@ -14,7 +14,7 @@ use crate::identity::{DeviceIdentity, IdentityRead, read_identity, write_identit
 use crate::tag_descriptor_date::TAG_SIZE;
 use framing::{Frame, PayloadVerdict, request_verdict};
 use packed_string::{Mode, decode_in, encode_in};
-use refusal::{Refusal, Written};
+use refusal::Refusal;
 use response::TAG_LENGTH;
 use types::FrameType;
 use types::consts::commands::READ_UNIQUE_ID_BY_TAG;
@@ -27,11 +27,11 @@ pub struct ReadUniqueIdByTagRequest {
 }
 
 // Writes the tag, packed.
-pub fn encode_data(mode: Mode, tag: [u8; TAG_LENGTH], buf: &mut [u8]) -> Written
+pub fn encode_data(mode: Mode, tag: [u8; TAG_LENGTH], buf: &mut [u8]) -> Result<usize, Refusal>
     ensures { ends (reply_of result) buf.new ≡ tag_requested mode tag buf.old }
 {
     if buf.len() < TAG_SIZE {
-        return Written::Refused(Refusal::BufferTooSmall);
+        return Err(Refusal::BufferTooSmall);
     }
     encode_in(mode, &tag, &mut buf[..TAG_SIZE])
 }
@@ -47,7 +47,7 @@ pub fn decode_tag(mode: Mode, packed: [u8; TAG_SIZE]) -> [u8; TAG_LENGTH]
     ensures { result ≡ unpacked_text mode packed }
 {
     let mut tag = [0x20u8; TAG_LENGTH];
-    decode_in(mode, &packed, &mut tag);
+    let _ = decode_in(mode, &packed, &mut tag);
     tag
 }
 
@@ -85,7 +85,7 @@ fn read_tag(mode: Mode, data: &[u8]) -> ReadUniqueIdByTagRequest
         return refused(PayloadVerdict::Refused(Refusal::BufferTooShort));
     }
     let mut tag = [0x20u8; TAG_LENGTH];
-    decode_in(mode, &data[0..TAG_SIZE], &mut tag);
+    let _ = decode_in(mode, &data[0..TAG_SIZE], &mut tag);
     ReadUniqueIdByTagRequest {
         verdict: PayloadVerdict::Carried,
         tag,
@@ -124,7 +124,7 @@ pub fn encode_response(
     second: u8,
     identity: DeviceIdentity,
     payload: &mut [u8],
-) -> Written
+) -> Result<usize, Refusal>
     ensures { ends (reply_of result) payload.new ≡ identity_responded first second identity payload.old }
 {
     write_identity(first, second, identity, payload)

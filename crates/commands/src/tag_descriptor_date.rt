@@ -10,7 +10,7 @@ ghost use Rattle.commands.specs.TagDescriptorDate.{texts_length, layout_size, ta
 
 use framing::{PayloadVerdict, payload_part, typed_verdict};
 use packed_string::{Mode, bad_place_in, decode_in, encode_in};
-use refusal::{Refusal, Written};
+use refusal::Refusal;
 use response::{DESCRIPTOR_LENGTH, Field, ResponseFields, TAG_LENGTH, write_response};
 use types::FrameType;
 
@@ -70,8 +70,8 @@ pub(crate) fn write_layout(
     requires { (layout_size ≤ length buf.old) × (texts_length ≤ bad_in mode (tag ++ descriptor)) }
     ensures { buf.new ≡ put buf.old 0 (tag_descriptor_date_layout mode tag descriptor day month year) }
 {
-    encode_in(mode, &tag, &mut buf[0..TAG_SIZE]);
-    encode_in(mode, &descriptor, &mut buf[TAG_SIZE..DAY_AT]);
+    let _ = encode_in(mode, &tag, &mut buf[0..TAG_SIZE]);
+    let _ = encode_in(mode, &descriptor, &mut buf[TAG_SIZE..DAY_AT]);
     buf[DAY_AT] = day;
     buf[MONTH_AT] = month;
     buf[YEAR_AT] = year;
@@ -98,9 +98,9 @@ pub(crate) fn read_layout(mode: Mode, data: &[u8]) -> TagDescriptorDate
         return refused(PayloadVerdict::Refused(Refusal::BufferTooShort));
     }
     let mut tag = [0x20u8; TAG_LENGTH];
-    decode_in(mode, &data[0..TAG_SIZE], &mut tag);
+    let _ = decode_in(mode, &data[0..TAG_SIZE], &mut tag);
     let mut descriptor = [0x20u8; DESCRIPTOR_LENGTH];
-    decode_in(mode, &data[TAG_SIZE..DAY_AT], &mut descriptor);
+    let _ = decode_in(mode, &data[TAG_SIZE..DAY_AT], &mut descriptor);
     TagDescriptorDate {
         verdict: PayloadVerdict::Carried,
         tag,
@@ -162,7 +162,7 @@ pub(crate) fn write_texts_and_date(
     month: u8,
     year: u8,
     payload: &mut [u8],
-) -> Written
+) -> Result<usize, Refusal>
     ensures { ends (reply_of result) payload.new ≡ tag_descriptor_date_responded mode first second tag descriptor day month year payload.old }
 {
     let fields = fields_of(mode, first, second, tag, descriptor, day, month, year);

@@ -14,7 +14,7 @@ use crate::tag_descriptor_date::{
 };
 use framing::{Frame, PayloadVerdict, request_verdict};
 use packed_string::Mode;
-use refusal::{Refusal, Written};
+use refusal::Refusal;
 use response::{DESCRIPTOR_LENGTH, TAG_LENGTH};
 use types::FrameType;
 use types::consts::commands::WRITE_TAG_DESCRIPTOR_DATE;
@@ -28,18 +28,18 @@ pub fn encode_data(
     month: u8,
     year: u8,
     buf: &mut [u8],
-) -> Written
+) -> Result<usize, Refusal>
     ensures { ends (reply_of result) buf.new ≡ tag_descriptor_date_requested mode tag descriptor day month year buf.old }
 {
     if buf.len() < LAYOUT_SIZE {
-        return Written::Refused(Refusal::BufferTooSmall);
+        return Err(Refusal::BufferTooSmall);
     }
     let place = bad_place_in_texts(mode, tag, descriptor);
     if place < TEXTS_LENGTH {
-        return Written::Refused(Refusal::BadCharacter(place));
+        return Err(Refusal::BadCharacter(place));
     }
     write_layout(mode, tag, descriptor, day, month, year, buf);
-    Written::Count(LAYOUT_SIZE)
+    Ok(LAYOUT_SIZE)
 }
 
 pub fn decode_data(mode: Mode, data: &[u8]) -> TagDescriptorDate
@@ -102,7 +102,7 @@ pub fn encode_response(
     month: u8,
     year: u8,
     payload: &mut [u8],
-) -> Written
+) -> Result<usize, Refusal>
     ensures { ends (reply_of result) payload.new ≡ tag_descriptor_date_responded mode first second tag descriptor day month year payload.old }
 {
     write_texts_and_date(

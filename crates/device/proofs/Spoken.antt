@@ -5,8 +5,8 @@ use mathlib.Core.Path.{◌≡◌, refl, sym, ap, ◌∙◌}
 use mathlib.Core.List.{List, [], ◌∷◌, ◌++◌}
 use lib.ListN.{length, get_or, take, set}
 use borrow.Author.Tests.{le-ltb}
-use Rattle.refusal.specs.declared.Written.{Written}
-use Rattle.refusal.specs.declared.Written.TheVariants.{Count, Refused}
+use Rattle.std.specs.Prelude.{Result, Ok, Err}
+use Rattle.refusal.specs.declared.Refusal.{Refusal}
 use Rattle.refusal.specs.Outcome.{Outcome, ends, reply_of, wrote}
 use Rattle.refusal.proofs.Leaves.{leaves_wrote}
 use Rattle.octets.proofs.Parts.{length_parts}
@@ -24,12 +24,12 @@ use Rattle.device.specs.declared.Said.{Said}
 use Rattle.device.specs.Device.{speaks}
 use Rattle.device.specs.Code.{said_in, spoken_by}
 
-pub spoken_wrote : (r : Written) {said : Said} {payload : List ℕ} (ds before : List ℕ) {outcome : Outcome} → said ≡ said_in r → ends (reply_of r) payload ≡ outcome → outcome ≡ wrote ds before → spoken_by said payload ≡ speaks ds
+pub spoken_wrote : (r : Result ℕ Refusal) {said : Said} {payload : List ℕ} (ds before : List ℕ) {outcome : Outcome} → said ≡ said_in r → ends (reply_of r) payload ≡ outcome → outcome ≡ wrote ds before → spoken_by said payload ≡ speaks ds
 spoken_wrote r {payload = payload} ds before s e f = ap (λ (x : Said). spoken_by x payload) s ∙ by r (e ∙ f)
   where
-    by : (w : Written) → ends (reply_of w) payload ≡ wrote ds before → spoken_by (said_in w) payload ≡ speaks ds
-    by (Count n) g = ap speaks (leaves_wrote ds before n payload (sym g))
-    by (Refused x) g = cc
+    by : (w : Result ℕ Refusal) → ends (reply_of w) payload ≡ wrote ds before → spoken_by (said_in w) payload ≡ speaks ds
+    by (Ok n) g = ap speaks (leaves_wrote ds before n payload (sym g))
+    by (Err x) g = cc
 
 -- two status bytes, stored one by one
 pub status_stored : (payload : List ℕ) (first second : ℕ) → 2 ≤ length payload → take 2 (set (set payload 0 first) 1 second) ≡ first ∷ second ∷ []

@@ -27,7 +27,7 @@ use commands::{
 use framing::{Frame, PayloadVerdict, encode_frame};
 use octets::least;
 use own::{DAY, MONTH, YEAR, own_descriptor, own_identity, own_tag, own_variable};
-use refusal::Written;
+use refusal::Refusal;
 use response::{GROUPS_END, MAX_DEVICE_VARS, TAG_LENGTH};
 use types::consts::MIN_PREAMBLE_COUNT;
 use types::consts::commands::{
@@ -48,12 +48,12 @@ enum Said {
     First(usize),
 }
 
-fn said_in(written: Written) -> Said
+fn said_in(written: Result<usize, Refusal>) -> Said
     ensures { result ≡ said_in written }
 {
     match written {
-        Written::Count(n) => Said::First(n),
-        Written::Refused(_) => Said::Nothing,
+        Ok(n) => Said::First(n),
+        Err(_) => Said::Nothing,
     }
 }
 
@@ -230,7 +230,13 @@ fn tell(frame: Frame, payload: &mut [u8]) -> Said
 }
 
 // The response with the first n of some bytes, or all of them.
-fn reply(address: Address, command: u8, bytes: &[u8], n: usize, out: &mut [u8]) -> Written
+fn reply(
+    address: Address,
+    command: u8,
+    bytes: &[u8],
+    n: usize,
+    out: &mut [u8],
+) -> Result<usize, Refusal>
     ensures { ends (reply_of result) out.new ≡ encoded Response address command (take n bytes.now) enough out.old }
 {
     let count = least(n, bytes.len());
@@ -245,14 +251,14 @@ fn reply(address: Address, command: u8, bytes: &[u8], n: usize, out: &mut [u8]) 
 }
 
 // Writes the response to the front of the buffer, and how many bytes that is: 0 where there is none.
-pub fn answer(frame: Frame, out: &mut [u8]) -> Written
+pub fn answer(frame: Frame, out: &mut [u8]) -> Result<usize, Refusal>
     ensures { ends (reply_of result) out.new ≡ answering frame out.old }
 {
     let mut payload = [0u8; GROUPS_END];
     let told = tell(frame, &mut payload);
     let address = frame.address;
     match told {
-        Said::Nothing => Written::Count(0),
+        Said::Nothing => Ok(0),
         Said::First(n) => reply(address, frame.command, &payload, n, out),
     }
 }

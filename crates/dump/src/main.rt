@@ -13,7 +13,6 @@ ghost use Rattle.dump_lines.specs.Lines.{printed};
 ghost use Rattle.dump.specs.Passing.{PassesOn, TellsEnd, ReadsAll};
 
 use dump_lines::Dump;
-use refusal::Written;
 use std::io::Read;
 use streams::Handover;
 
@@ -129,8 +128,8 @@ fn print_end(rt: &(impl Print + Eprint), dump: Dump, out: &mut [u8]) -> Sent
     ensures { TellsEnd dump out.new result }
 {
     match dump.end(out) {
-        Written::Count(n) => print(rt, &out[..n]),
-        Written::Refused(_) => Sent { asked: 0, took: 0 },
+        Ok(n) => print(rt, &out[..n]),
+        Err(_) => Sent { asked: 0, took: 0 },
     }
 }
 

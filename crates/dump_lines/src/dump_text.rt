@@ -17,7 +17,7 @@ ghost use Rattle.dump_lines.specs.Code.{Writes};
 
 use line::{Ended, Head, ROOM};
 use octets::{copy_into, decimal, hex};
-use refusal::{Refusal, Written};
+use refusal::Refusal;
 use types::consts::MAX_DATA_LENGTH;
 use types::{Address, AddressRead, FrameType, HEAD_ROOM, LONG_ADDRESS_LENGTH};
 
@@ -94,7 +94,7 @@ fn write_address(bytes: &[u8], long: bool, mark: u8, out: &mut [u8], at: usize) 
         return at;
     };
     let mut written = [0u8; LONG_ADDRESS_LENGTH];
-    address.encode(&mut written);
+    let _ = address.encode(&mut written);
     write_hex(&written[0..used], mark, out, at)
 }
 
@@ -190,14 +190,19 @@ pub(crate) fn write_line(
 }
 
 // The last line, with the totals, at the front of the buffer; 2 where the longest line would not fit.
-pub(crate) fn write_end(bytes: u64, frames: u64, refusals: u64, out: &mut [u8]) -> Written
+pub(crate) fn write_end(
+    bytes: u64,
+    frames: u64,
+    refusals: u64,
+    out: &mut [u8],
+) -> Result<usize, Refusal>
     ensures { ends (reply_of result) out.new ≡ end_written bytes frames refusals out.old }
 {
     if out.len() < LINE_MAX {
-        return Written::Refused(Refusal::BufferTooSmall);
+        return Err(Refusal::BufferTooSmall);
     }
     let after_end = write_word(b"end", SPACE, out, 0);
     let after_bytes = write_number(bytes, SPACE, out, after_end);
     let after_frames = write_number(frames, SPACE, out, after_bytes);
-    Written::Count(write_number(refusals, NEWLINE, out, after_frames))
+    Ok(write_number(refusals, NEWLINE, out, after_frames))
 }

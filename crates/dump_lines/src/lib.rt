@@ -16,7 +16,7 @@ pub use dump_text::LINE_MAX;
 use dump_text::{write_end, write_line};
 use framing::step;
 use line::{Ended, ROOM, State};
-use refusal::Written;
+use refusal::Refusal;
 
 // Each stays at the largest number that it can be.
 #[derive(Clone, Copy)]
@@ -158,7 +158,7 @@ impl Dump {
     }
 
     // The last line, for a run that ends here; 2 where the longest line would not fit.
-    pub fn end(self, out: &mut [u8]) -> Written
+    pub fn end(self, out: &mut [u8]) -> Result<usize, Refusal>
         ensures { ends (reply_of result) out.new ≡ end_written self.totals.bytes self.totals.frames self.totals.refusals out.old }
     {
         let totals = self.totals;

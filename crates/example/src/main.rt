@@ -10,7 +10,7 @@ mod words;
 use commands::read_device_vars::{DeviceVariable, MAX_DEVICE_VARS, ReadDeviceVarsResponse};
 use commands::{Mode, Reading, read_device_vars, read_unique_id_by_tag};
 use framing::{Answer, Decoder, Frame, Heard, PayloadVerdict, encode_frame};
-use refusal::Written;
+use refusal::Refusal;
 use std::io::Read;
 use types::consts::MIN_PREAMBLE_COUNT;
 use types::consts::commands::READ_DEVICE_VARS_WITH_STATUS;
@@ -18,13 +18,13 @@ use types::{Address, FrameType, MasterRole};
 use words::{first, print, print_bytes, print_number, print_refusal};
 
 // A call that writes gets a buffer and tells how many bytes it wrote to its front, or why it wrote none.
-fn tell_written(rt: &impl Print, written: Written, buffer: &[u8]) {
+fn tell_written(rt: &impl Print, written: Result<usize, Refusal>, buffer: &[u8]) {
     match written {
-        Written::Count(n) => {
+        Ok(n) => {
             print_bytes(rt, first(buffer, n));
             print(rt, b"\n");
         }
-        Written::Refused(refusal) => print_refusal(rt, refusal),
+        Err(refusal) => print_refusal(rt, refusal),
     }
 }
 
@@ -39,7 +39,7 @@ fn ask(rt: &impl Print) {
     };
     let mut data = [0u8; 2];
     let mut buffer = [0u8; 32];
-    read_device_vars::encode_data(&[0, 1], &mut data);
+    let _ = read_device_vars::encode_data(&[0, 1], &mut data);
     let written = encode_frame(
         FrameType::Request,
         address,

@@ -9,7 +9,7 @@ ghost use Rattle.line.specs.Encode.{wire_of, layout, total, encoded};
 ghost use Rattle.framing.specs.Code.{head, data_place, sealed};
 
 use octets::{checksum_from, copy_into, fill};
-use refusal::{Refusal, Written};
+use refusal::Refusal;
 use types::consts::{MAX_DATA_LENGTH, PREAMBLE_BYTE};
 use types::{Address, FrameType, Opening, address_length, delimiter_byte};
 
@@ -47,7 +47,7 @@ fn write_head(
     };
     buf[pos] = delimiter_byte(opening);
     let after = pos + 1;
-    address.encode(&mut buf[after..]);
+    let _ = address.encode(&mut buf[after..]);
     let next = after + length_of(address);
     buf[next] = command;
     buf[next + 1] = count;
@@ -99,18 +99,18 @@ pub fn encode_frame(
     data: &[u8],
     preamble_count: u8,
     buf: &mut [u8],
-) -> Written
+) -> Result<usize, Refusal>
     ensures { ends (reply_of result) buf.new ≡ encoded frame_type address command «data».now preamble_count buf.old }
 {
     if data.len() > MAX_DATA_LENGTH {
-        return Written::Refused(Refusal::DataTooLong);
+        return Err(Refusal::DataTooLong);
     }
     let total = preamble_count as usize + 4 + length_of(address) + data.len();
     if buf.len() < total {
-        return Written::Refused(Refusal::BufferTooSmall);
+        return Err(Refusal::BufferTooSmall);
     }
     write_frame(frame_type, address, command, data, preamble_count, buf);
-    Written::Count(total)
+    Ok(total)
 }
 
 // The head of a frame whose data someone else puts in place, where it has room; returns where they begin.

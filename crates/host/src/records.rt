@@ -21,7 +21,7 @@ fn write_address(address: Address, room: &mut [u8], at: usize)
     requires { at + address_length (is_long address) ≤ length room.old }
     ensures { room.new ≡ put room.old at (address_bytes address) }
 {
-    address.encode(&mut room[at..]);
+    let _ = address.encode(&mut room[at..]);
 }
 
 // The first byte of a frame's record.

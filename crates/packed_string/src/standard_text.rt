@@ -6,34 +6,34 @@ ghost use Rattle.packed_string.specs.Standard.{standard_packed, standard_unpacke
 use crate::bad_character::bad_place;
 use crate::text_group::Mode;
 use crate::text_groups::{pack, unpack};
-use refusal::{Refusal, Written};
+use refusal::Refusal;
 
 // Packs the whole text, or nothing.
-pub fn encode_standard(src: &[u8], dst: &mut [u8]) -> Written
+pub fn encode_standard(src: &[u8], dst: &mut [u8]) -> Result<usize, Refusal>
     ensures { ends (reply_of result) dst.new ≡ standard_packed src.now dst.old }
 {
     let length = src.len();
     // four characters for each group that fits
     if dst.len() / 3 * 4 < length {
-        return Written::Refused(Refusal::BufferTooSmall);
+        return Err(Refusal::BufferTooSmall);
     }
     let place = bad_place(src);
     if place < length {
-        return Written::Refused(Refusal::BadCharacter(place));
+        return Err(Refusal::BadCharacter(place));
     }
-    Written::Count(pack(Mode::Standard, src, dst) * 3)
+    Ok(pack(Mode::Standard, src, dst) * 3)
 }
 
 // Unpacks all the bytes, or none.
-pub fn decode_standard(src: &[u8], dst: &mut [u8]) -> Written
+pub fn decode_standard(src: &[u8], dst: &mut [u8]) -> Result<usize, Refusal>
     ensures { ends (reply_of result) dst.new ≡ standard_unpacked src.now dst.old }
 {
     let length = src.len();
     if length % 3 != 0 {
-        return Written::Refused(Refusal::BufferTooShort);
+        return Err(Refusal::BufferTooShort);
     }
     if dst.len() / 4 < length / 3 {
-        return Written::Refused(Refusal::BufferTooSmall);
+        return Err(Refusal::BufferTooSmall);
     }
-    Written::Count(unpack(Mode::Standard, src, dst) * 4)
+    Ok(unpack(Mode::Standard, src, dst) * 4)
 }

@@ -7,22 +7,22 @@ use crate::bad_character::bad_place;
 use crate::standard_text::{decode_standard, encode_standard};
 use crate::text_group::Mode;
 use crate::{decode_packed, encode_packed};
-use refusal::Written;
+use refusal::Refusal;
 
-pub fn encode_in(mode: Mode, src: &[u8], dst: &mut [u8]) -> Written
+pub fn encode_in(mode: Mode, src: &[u8], dst: &mut [u8]) -> Result<usize, Refusal>
     ensures { ends (reply_of result) dst.new ≡ packed_in mode src.now dst.old }
 {
     match mode {
-        Mode::Crate => Written::Count(encode_packed(src, dst)),
+        Mode::Crate => Ok(encode_packed(src, dst)),
         Mode::Standard => encode_standard(src, dst),
     }
 }
 
-pub fn decode_in(mode: Mode, src: &[u8], dst: &mut [u8]) -> Written
+pub fn decode_in(mode: Mode, src: &[u8], dst: &mut [u8]) -> Result<usize, Refusal>
     ensures { ends (reply_of result) dst.new ≡ unpacked_in mode src.now dst.old }
 {
     match mode {
-        Mode::Crate => Written::Count(decode_packed(src, dst)),
+        Mode::Crate => Ok(decode_packed(src, dst)),
         Mode::Standard => decode_standard(src, dst),
     }
 }

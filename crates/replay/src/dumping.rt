@@ -3,7 +3,6 @@ use crate::bytes::first;
 use crate::hearing::put_silence;
 use crate::text::{OUT_SIZE, put_refusal, put_text};
 use dump_lines::{Dump, LINE_MAX};
-use refusal::Written;
 
 // The dump behind some bytes, and the place behind their lines.
 #[derive(Drop)]
@@ -44,7 +43,7 @@ pub(crate) fn put_end(dump: Dump, out: &mut [u8; OUT_SIZE], at: usize) -> usize 
     let mut line = [0u8; LINE_MAX];
     let written = dump.end(&mut line);
     match written {
-        Written::Count(n) => put_text(first(&line, less_one(n)), 0, out, at),
-        Written::Refused(refusal) => put_refusal(refusal, out, at),
+        Ok(n) => put_text(first(&line, less_one(n)), 0, out, at),
+        Err(refusal) => put_refusal(refusal, out, at),
     }
 }

@@ -5,7 +5,7 @@ use crate::case::CASE_MAX;
 use crate::choices::mode_of;
 use crate::shape::{PUT_HEAD, PUT_MAX};
 use crate::text::{OUT_SIZE, put_marked, put_written};
-use refusal::Written;
+use refusal::Refusal;
 use response::{
     DESCRIPTOR_LENGTH, Field, GROUP_SIZE, IDENTITY_SIZE, MAX_FIELDS, Placed, ResponseFields,
     TAG_LENGTH, put_field, write_response,
@@ -87,7 +87,7 @@ fn fields_in(bytes: &[u8]) -> ResponseFields {
     fields
 }
 
-pub(crate) fn write_whole(bytes: &[u8], buffer: &mut [u8]) -> Written {
+pub(crate) fn write_whole(bytes: &[u8], buffer: &mut [u8]) -> Result<usize, Refusal> {
     write_response(fields_in(rest(bytes, 2)), buffer)
 }
 

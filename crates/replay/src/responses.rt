@@ -8,7 +8,7 @@ use commands::{
     read_unique_id_by_tag, value_of, write_tag_descriptor_date,
 };
 use octets::decode_u16_be;
-use refusal::Written;
+use refusal::Refusal;
 
 fn identity_in(bytes: &[u8]) -> DeviceIdentity {
     DeviceIdentity {
@@ -51,7 +51,13 @@ fn variables_in(groups: &[u8]) -> [DeviceVariable; MAX_DEVICE_VARS] {
     ]
 }
 
-fn write_identity(command: u8, first: u8, second: u8, bytes: &[u8], buffer: &mut [u8]) -> Written {
+fn write_identity(
+    command: u8,
+    first: u8,
+    second: u8,
+    bytes: &[u8],
+    buffer: &mut [u8],
+) -> Result<usize, Refusal> {
     let identity = identity_in(rest(bytes, RESPONSE_HEAD));
     if command == 0 {
         return read_device_id::encode_response(first, second, identity, buffer);
@@ -59,7 +65,12 @@ fn write_identity(command: u8, first: u8, second: u8, bytes: &[u8], buffer: &mut
     read_unique_id_by_tag::encode_response(first, second, identity, buffer)
 }
 
-fn write_variables(first: u8, second: u8, bytes: &[u8], buffer: &mut [u8]) -> Written {
+fn write_variables(
+    first: u8,
+    second: u8,
+    bytes: &[u8],
+    buffer: &mut [u8],
+) -> Result<usize, Refusal> {
     read_device_vars::encode_response(
         first,
         second,
@@ -70,7 +81,13 @@ fn write_variables(first: u8, second: u8, bytes: &[u8], buffer: &mut [u8]) -> Wr
     )
 }
 
-fn write_texts(command: u8, first: u8, second: u8, bytes: &[u8], buffer: &mut [u8]) -> Written {
+fn write_texts(
+    command: u8,
+    first: u8,
+    second: u8,
+    bytes: &[u8],
+    buffer: &mut [u8],
+) -> Result<usize, Refusal> {
     let mode = mode_of(byte_at(bytes, 5) == 1);
     let tag = eight_in(rest(bytes, 6));
     let descriptor = sixteen_in(rest(bytes, 14));
@@ -87,7 +104,7 @@ fn write_texts(command: u8, first: u8, second: u8, bytes: &[u8], buffer: &mut [u
     )
 }
 
-pub(crate) fn write_answer(bytes: &[u8], buffer: &mut [u8]) -> Written {
+pub(crate) fn write_answer(bytes: &[u8], buffer: &mut [u8]) -> Result<usize, Refusal> {
     let command = byte_at(bytes, 0);
     let first = byte_at(bytes, 3);
     let second = byte_at(bytes, 4);

@@ -1,7 +1,7 @@
 // Text of an answer: each function here writes from place `at` on and gives back the place behind. Where
 // the output is full nothing is written; main.rt looks behind each answer whether it came to that.
 use octets::{decimal, hex, least};
-use refusal::{Refusal, Written};
+use refusal::Refusal;
 
 // Room for answers.
 pub(crate) const OUT_SIZE: usize = 65536;
@@ -132,14 +132,14 @@ pub(crate) fn put_refusal(refusal: Refusal, out: &mut [u8; OUT_SIZE], at: usize)
 
 // A count or a refusal, and the mark behind it.
 pub(crate) fn put_written(
-    written: Written,
+    written: Result<usize, Refusal>,
     mark: u8,
     out: &mut [u8; OUT_SIZE],
     at: usize,
 ) -> usize {
     match written {
-        Written::Count(n) => put_marked(n, mark, out, at),
-        Written::Refused(refusal) => {
+        Ok(n) => put_marked(n, mark, out, at),
+        Err(refusal) => {
             let next = put_refusal(refusal, out, at);
             put(mark, out, next)
         }

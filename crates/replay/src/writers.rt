@@ -13,7 +13,7 @@ use commands::{
 };
 use framing::encode_frame;
 use packed_string::{decode_packed, decode_standard, encode_packed, encode_standard};
-use refusal::Written;
+use refusal::Refusal;
 use types::Address;
 
 // How many bytes the case's buffer has.
@@ -36,11 +36,11 @@ pub(crate) fn fill_pattern(buffer: &mut [u8]) {
     }
 }
 
-fn write_address(address: Address, buffer: &mut [u8]) -> Written {
+fn write_address(address: Address, buffer: &mut [u8]) -> Result<usize, Refusal> {
     address.encode(buffer)
 }
 
-fn write_frame(bytes: &[u8], buffer: &mut [u8]) -> Written {
+fn write_frame(bytes: &[u8], buffer: &mut [u8]) -> Result<usize, Refusal> {
     let frame_type = frame_type_of(byte_at(bytes, 0));
     let address = address_in(rest(bytes, 1));
     encode_frame(
@@ -53,25 +53,25 @@ fn write_frame(bytes: &[u8], buffer: &mut [u8]) -> Written {
     )
 }
 
-fn write_packed(mode: Mode, bytes: &[u8], buffer: &mut [u8]) -> Written {
+fn write_packed(mode: Mode, bytes: &[u8], buffer: &mut [u8]) -> Result<usize, Refusal> {
     match mode {
-        Mode::Crate => Written::Count(encode_packed(rest(bytes, 2), buffer)),
+        Mode::Crate => Ok(encode_packed(rest(bytes, 2), buffer)),
         Mode::Standard => encode_standard(rest(bytes, 2), buffer),
     }
 }
 
-fn write_unpacked(mode: Mode, bytes: &[u8], buffer: &mut [u8]) -> Written {
+fn write_unpacked(mode: Mode, bytes: &[u8], buffer: &mut [u8]) -> Result<usize, Refusal> {
     match mode {
-        Mode::Crate => Written::Count(decode_packed(rest(bytes, 2), buffer)),
+        Mode::Crate => Ok(decode_packed(rest(bytes, 2), buffer)),
         Mode::Standard => decode_standard(rest(bytes, 2), buffer),
     }
 }
 
-fn write_tag(mode: Mode, bytes: &[u8], buffer: &mut [u8]) -> Written {
+fn write_tag(mode: Mode, bytes: &[u8], buffer: &mut [u8]) -> Result<usize, Refusal> {
     read_unique_id_by_tag::encode_data(mode, eight_in(rest(bytes, 1)), buffer)
 }
 
-fn write_date(mode: Mode, bytes: &[u8], buffer: &mut [u8]) -> Written {
+fn write_date(mode: Mode, bytes: &[u8], buffer: &mut [u8]) -> Result<usize, Refusal> {
     write_tag_descriptor_date::encode_data(
         mode,
         eight_in(rest(bytes, 1)),
@@ -84,14 +84,14 @@ fn write_date(mode: Mode, bytes: &[u8], buffer: &mut [u8]) -> Written {
 }
 
 // The request of command 0 or 13.
-fn write_no_data(command: u8, buffer: &mut [u8]) -> Written {
+fn write_no_data(command: u8, buffer: &mut [u8]) -> Result<usize, Refusal> {
     if command == 0 {
         return read_device_id::encode_data(buffer);
     }
     read_tag_descriptor_date::encode_data(buffer)
 }
 
-fn write(letter: u8, mode: Mode, bytes: &[u8], buffer: &mut [u8]) -> Written {
+fn write(letter: u8, mode: Mode, bytes: &[u8], buffer: &mut [u8]) -> Result<usize, Refusal> {
     match letter {
         b'w' => write_address(address_in(bytes), buffer),
         b'e' => write_frame(bytes, buffer),

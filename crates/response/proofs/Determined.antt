@@ -4,7 +4,8 @@ use mathlib.Core.List.{List}
 use Prim.Native.Nat.{ℕ}
 use denote.Ref.{MutBor}
 use Rattle.refusal.specs.Determined.{Determined, DeterminedLent}
-use Rattle.refusal.specs.declared.Written.{Written}
+use Rattle.std.specs.Prelude.{Result}
+use Rattle.refusal.specs.declared.Refusal.{Refusal}
 use Rattle.refusal.specs.Outcome.{reply_of}
 use Rattle.refusal.proofs.Known.{written_known, agree, agree_alone, agree_lent}
 use Rattle.response.specs.declared.field.Placed.{Placed}
@@ -66,7 +67,7 @@ placed_known : (r s : Placed) {b c : List ℕ} {o : Placing} → placing r b ≡
 placed_known r s p q =
     let w : r.written ≡ s.written = written_known r.written s.written (cc) in
     let n : r.at ≡ s.at = cc in
-    (ap₂ (λ (x : Written) (y : ℕ). record { written = x; at = y }) w n, cc)
+    (ap₂ (λ (x : Result ℕ Refusal) (y : ℕ). record { written = x; at = y }) w n, cc)
 
 pub put_field : Determined 1 put-field-kinds.ps put-field-kinds.r put-field-reads.Post (λ κs x. x.0.now)
 put_field κs a r s x y p q = placed_known r s p q

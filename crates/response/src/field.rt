@@ -10,7 +10,7 @@ use crate::sizes::{
 };
 use octets::{copy_into, least};
 use packed_string::{Mode, bad_place_in, encode_in};
-use refusal::{Refusal, Written};
+use refusal::Refusal;
 
 // Bytes as they are, the group of a device variable, or text, which is packed where it is put.
 #[derive(Clone, Copy)]
@@ -31,7 +31,7 @@ pub struct Field {
 // What putting a field came to, and the place reached.
 #[derive(Clone, Copy)]
 pub struct Placed {
-    pub written: Written,
+    pub written: Result<usize, Refusal>,
     pub at: usize,
 }
 
@@ -110,10 +110,10 @@ impl Field {
 }
 
 fn stays(refusal: Refusal, at: usize) -> Placed
-    ensures { result ≡ record { written = Written.Refused refusal; at = at } }
+    ensures { result ≡ record { written = Err refusal; at = at } }
 {
     Placed {
-        written: Written::Refused(refusal),
+        written: Err(refusal),
         at,
     }
 }
@@ -170,7 +170,7 @@ fn write_in(kind: Kind, contents: &[u8], payload: &mut [u8], at: usize, end: usi
         Kind::Bytes => copy_into(contents, payload, at),
         Kind::Group => copy_into(contents, payload, at),
         Kind::Text(mode) => {
-            encode_in(mode, contents, &mut payload[at..end]);
+            let _ = encode_in(mode, contents, &mut payload[at..end]);
         }
     }
 }
@@ -198,7 +198,7 @@ fn put_contents(kind: Kind, contents: &[u8], payload: &mut [u8], at: usize) -> P
     }
     write_in(kind, contents, payload, at, end);
     Placed {
-        written: Written::Count(size),
+        written: Ok(size),
         at: end,
     }
 }

@@ -9,7 +9,7 @@ ghost use Rattle.response.specs.Whole.{bad_through, added_in, added, weighed, re
 use crate::field::{Field, Kind, bad_of, characters_in, latest_of, size_in};
 use crate::writer::{MAX_FIELDS, ResponseFields, field_at, write_fields};
 use octets::least;
-use refusal::{Refusal, Written};
+use refusal::Refusal;
 
 // Whether a field ends too late, the bytes of all, their characters, and the first place of one without
 // a code, or their number.
@@ -86,24 +86,24 @@ fn weigh(fields: ResponseFields) -> Weight
 
 // All fields, or none: 1 where there are too many or one would end too late, 2 where there is no room for
 // all, 7 for the first character without a code, counted through all text.
-pub fn write_response(fields: ResponseFields, payload: &mut [u8]) -> Written
+pub fn write_response(fields: ResponseFields, payload: &mut [u8]) -> Result<usize, Refusal>
     ensures { ends (reply_of result) payload.new ≡ responded (field_at fields) fields.count payload.old }
 {
     if fields.count > MAX_FIELDS {
-        return Written::Refused(Refusal::DataTooLong);
+        return Err(Refusal::DataTooLong);
     }
     let weight = weigh(fields);
     if weight.late {
-        return Written::Refused(Refusal::DataTooLong);
+        return Err(Refusal::DataTooLong);
     }
     let size = weight.size;
     if payload.len() < size {
-        return Written::Refused(Refusal::BufferTooSmall);
+        return Err(Refusal::BufferTooSmall);
     }
     let bad = weight.bad;
     if bad < weight.characters {
-        return Written::Refused(Refusal::BadCharacter(bad));
+        return Err(Refusal::BadCharacter(bad));
     }
     write_fields(fields, payload);
-    Written::Count(size)
+    Ok(size)
 }

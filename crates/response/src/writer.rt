@@ -7,7 +7,7 @@ ghost use Rattle.response.specs.Writer.{reply_in, advanced, pushed_on, no_fields
 
 use crate::field::{Field, put_field};
 use crate::sizes::MAX_DEVICE_VARS;
-use refusal::Written;
+use refusal::Refusal;
 
 #[derive(Drop)]
 pub struct ResponseWriter<'a> {
@@ -23,7 +23,7 @@ impl<'a> ResponseWriter<'a> {
     }
 
     // One field more, behind those that are there.
-    pub fn push<'s>(&'s mut self, field: Field) -> Written
+    pub fn push<'s>(&'s mut self, field: Field) -> Result<usize, Refusal>
         ensures { (reply_of result ≡ reply_in (pushed_on self.old field)) × (self.new ≡ advanced self.old (pushed_on self.old field)) }
     {
         let at = self.at;
@@ -91,7 +91,7 @@ pub(crate) fn write_fields(fields: ResponseFields, payload: &mut [u8]) -> usize
     let mut i: usize = 0;
     while i < fields.count {
         let field = field_at(fields, i);
-        writer.push(field);
+        let _ = writer.push(field);
         i += 1;
     }
     writer.at

@@ -14,7 +14,6 @@ ghost use Rattle.streams.specs.Passing.{read_size, HandsOver, PassesFront, Passe
 
 use device::answer as answer_to;
 use framing::{Answer, Decoder, Frame, Heard};
-use refusal::Written;
 use std::io::Read;
 use streams::{Handover, READ_SIZE, READS};
 use types::consts::MAX_FRAME_LENGTH;
@@ -67,8 +66,8 @@ fn respond(rt: &(impl Print + Eprint), frame: Frame, out: &mut [u8]) -> Handover
     ensures { HandsOver (answer_bytes frame) out.new result }
 {
     match answer_to(frame, out) {
-        Written::Count(n) => print(rt, &out[..n]),
-        Written::Refused(_) => Handover { asked: 0, took: 0 },
+        Ok(n) => print(rt, &out[..n]),
+        Err(_) => Handover { asked: 0, took: 0 },
     }
 }
 

@@ -10,7 +10,7 @@ use crate::first::{
     MasterRole, burst_bit, burst_of, manufacturer_of, master_bit, master_of, polling_of,
 };
 use octets::{decode_u24_be, encode_u24_be};
-use refusal::{Refusal, Written};
+use refusal::Refusal;
 
 pub const SHORT_ADDRESS_LENGTH: usize = 1;
 
@@ -139,7 +139,7 @@ impl Address {
     }
 
     // Writes as many bytes as the address has. The Rust stops where the buffer has fewer.
-    pub fn encode(self, buf: &mut [u8]) -> Written
+    pub fn encode(self, buf: &mut [u8]) -> Result<usize, Refusal>
         ensures { ends (reply_of result) buf.new ≡ address_written self buf.old }
     {
         match self {
@@ -149,10 +149,10 @@ impl Address {
                 poll_address,
             } => {
                 if buf.len() < SHORT_ADDRESS_LENGTH {
-                    return Written::Refused(Refusal::BufferTooSmall);
+                    return Err(Refusal::BufferTooSmall);
                 }
                 buf[0] = first_byte(master, burst, poll_address & SHORT_ADDRESS_MASK);
-                Written::Count(SHORT_ADDRESS_LENGTH)
+                Ok(SHORT_ADDRESS_LENGTH)
             }
             Address::Long {
                 master,
@@ -162,11 +162,11 @@ impl Address {
                 device_id,
             } => {
                 if buf.len() < LONG_ADDRESS_LENGTH {
-                    return Written::Refused(Refusal::BufferTooSmall);
+                    return Err(Refusal::BufferTooSmall);
                 }
                 let first = first_byte(master, burst, manufacturer_id & MANUFACTURER_ID_MASK);
                 write_long(first, device_type, device_id, buf);
-                Written::Count(LONG_ADDRESS_LENGTH)
+                Ok(LONG_ADDRESS_LENGTH)
             }
         }
     }
