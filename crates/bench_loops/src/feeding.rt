@@ -1,8 +1,9 @@
 // A run of bytes fed to a decoder, each frame and each refusal of it added up. The sum has the frames
 // from 2^44 on, the refusals from 2^28 on, and below them a byte or two of each frame, so that no
 // decoder is spared the making of its frames.
-use framing::{Answer, Decoder, Heard, State, step};
-use line::{Ended, ROOM};
+use framing::{Decoder, Frame, State, step};
+use line::ROOM;
+use refusal::Refusal;
 use types::HEAD_ROOM;
 
 const FRAME: u64 = 17592186044416;
@@ -14,16 +15,14 @@ fn with_frame(sum: u64, command: u8, length: u8, middle: u8) -> u64 {
     std::num::wrapping_add_u64(sum, more)
 }
 
-fn with_heard(sum: u64, heard: Heard) -> u64 {
-    let answer = heard.answer;
-    match answer {
-        Answer::Silence => sum,
-        Answer::Found => {
-            let frame = heard.frame;
+fn with_heard(sum: u64, heard: Result<Option<Frame>, Refusal>) -> u64 {
+    match heard {
+        Ok(None) => sum,
+        Ok(Some(frame)) => {
             let place = frame.length as usize / 2;
             with_frame(sum, frame.command, frame.length, frame.data[place])
         }
-        Answer::Refused(_) => std::num::wrapping_add_u64(sum, REFUSAL),
+        Err(_) => std::num::wrapping_add_u64(sum, REFUSAL),
     }
 }
 
@@ -55,23 +54,18 @@ struct Turned {
 fn turn(state: State, bytes: &mut [u8; ROOM], byte: u8, sum: u64) -> Turned {
     let moved = step(state, bytes, byte);
     let next = moved.state;
-    let ended = moved.ended;
-    match ended {
-        Ended::Nothing => Turned { state: next, sum },
-        Ended::Frame {
-            head: _,
-            command,
-            length,
-        } => {
-            let place = HEAD_ROOM + length as usize / 2;
+    match moved.ended {
+        Ok(None) => Turned { state: next, sum },
+        Ok(Some(completed)) => {
+            let place = HEAD_ROOM + completed.length as usize / 2;
             let middle = bytes[place];
             *bytes = [0u8; ROOM];
             Turned {
                 state: next,
-                sum: with_frame(sum, command, length, middle),
+                sum: with_frame(sum, completed.command, completed.length, middle),
             }
         }
-        Ended::Refused(_) => {
+        Err(_) => {
             *bytes = [0u8; ROOM];
             Turned {
                 state: next,

@@ -18,7 +18,7 @@ use Rattle.line.specs.declared.frame.Frame.{Frame}
 use Rattle.framing.specs.declared.payload.PayloadVerdict.{PayloadVerdict}
 use Rattle.framing.specs.Payload.{carries, judgement_of}
 use Rattle.framing.specs.Requests.{no_data}
-use Rattle.framing.specs.RoundTrip.{Handed, heard_back}
+use Rattle.framing.specs.RoundTrip.{Handed, frame_back}
 use Rattle.framing.specs.Bench.{Sent}
 use Rattle.framing.proofs.Bench.{bench_answered, bench_asked}
 use Rattle.response.specs.Sizes.{tag_length, descriptor_length, most_variables}
@@ -49,7 +49,7 @@ use Rattle.commands.proofs.write_tag_descriptor_date.read_response.Reads as resp
 
 module _ (h : Handed) where
   abbrev frame : Frame
-  frame = (heard_back h).frame
+  frame = frame_back h
 
   module _ {count : ℕ} {after : List ℕ} where
     -- the device answers, and the host reads

@@ -5,17 +5,16 @@ use mathlib.Core.List.{List, [], ◌∷◌, ◌++◌, append_assoc}
 use Rattle.line.specs.Pieces.{Bytes}
 use Rattle.line.specs.Events.{gather}
 use Rattle.line.specs.Runs.{says}
+use Rattle.std.specs.Prelude.{Some, None, Ok, Err}
+use Rattle.line.specs.machine.Frames.{Heard}
 use Rattle.line.specs.machine.Demand.{frame_heard, frames_heard}
-use Rattle.line.specs.declared.frame.Answer.{Answer}
-use Rattle.line.specs.declared.frame.Answer.TheVariants.{Silence, Found, Refused}
 use Rattle.line.specs.declared.frame.Frame.{Frame}
-use Rattle.line.specs.declared.frame.Heard.{Heard}
 use Rattle.line.proofs.Machines.{says-append}
 use Rattle.framing.specs.Feed.{fresh_decoder}
 use Rattle.framing.specs.Demand.{decoder_hears}
 use Rattle.framing.specs.declared.decode.Decoder.{Decoder}
 use Rattle.framing.proofs.Demand.{answered}
-use Rattle.device.specs.Conversation.{answer_bytes, answer_beside, answer_heard, listening, answers_along, Conversed}
+use Rattle.device.specs.Conversation.{answer_bytes, answer_heard, listening, answers_along, Conversed}
 
 heard-append : (hs js : List Heard) → gather answer_heard (hs ++ js) ≡ gather answer_heard hs ++ gather answer_heard js
 heard-append [] js = refl
@@ -26,14 +25,14 @@ answers-append d bs cs =
     ap (gather answer_heard) (says-append decoder_hears d bs cs) ∙ heard-append (says decoder_hears d bs) (says decoder_hears (listening d bs) cs)
 
 -- only frames are answered
-frame_answered : (a : Answer) (f : Frame) (bs : List ℕ) (fs : List Frame) → bs ≡ gather answer_bytes fs → answer_beside a f ++ bs ≡ gather answer_bytes (frame_heard a f ++ fs)
-frame_answered Silence f bs fs e = e
-frame_answered Found f bs fs e = ap (λ (cs : List ℕ). answer_bytes f ++ cs) e
-frame_answered (Refused r) f bs fs e = e
+frame_answered : (h : Heard) (bs : List ℕ) (fs : List Frame) → bs ≡ gather answer_bytes fs → answer_heard h ++ bs ≡ gather answer_bytes (frame_heard h ++ fs)
+frame_answered (Ok None) bs fs e = e
+frame_answered (Ok (Some f)) bs fs e = ap (λ (cs : List ℕ). answer_bytes f ++ cs) e
+frame_answered (Err r) bs fs e = e
 
 pub frames_answered : (hs : List Heard) → gather answer_heard hs ≡ gather answer_bytes (frames_heard hs)
 frames_answered [] = refl
-frames_answered (h ∷ hs) = frame_answered h.answer h.frame (gather answer_heard hs) (frames_heard hs) (frames_answered hs)
+frames_answered (h ∷ hs) = frame_answered h (gather answer_heard hs) (frames_heard hs) (frames_answered hs)
 
 pub answers_cut : (run : List ℕ) → Bytes run → Conversed run
 answers_cut run k =

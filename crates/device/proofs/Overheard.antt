@@ -17,9 +17,9 @@ use Rattle.line.specs.Events.{verdict, gather, frames_in, refusals_in}
 use Rattle.line.specs.Runs.{says}
 use Rattle.line.specs.Encode.{wire_of}
 use Rattle.line.specs.machine.Frames.{frame_of}
-use Rattle.line.specs.machine.Demand.{frames_heard, refusals_heard}
+use Rattle.line.specs.machine.Demand.{frame_heard, frames_heard, refusals_heard}
 use Rattle.line.specs.declared.frame.Frame.{Frame}
-use Rattle.line.specs.declared.frame.Heard.{Heard}
+use Rattle.line.specs.machine.Frames.{Heard}
 use Rattle.line.proofs.Bytes.{bytes-append, bytes_left, bytes_right}
 use Rattle.framing.specs.Feed.{fresh_decoder}
 use Rattle.framing.specs.Demand.{decoder_hears}
@@ -122,7 +122,7 @@ module _ (f : Frame) where
 
     pieces_told : (s : Spoken) → SmallSpoken s → frames_of (pieces_by f s) ≡ spoken_frames f s
     pieces_told keeps_silent small = refl
-    pieces_told (speaks ds) small = ap (λ (h : Heard). h.frame ∷ []) (told_back (handing ds small) b.limited)
+    pieces_told (speaks ds) small = ap frame_heard (told_back (handing ds small) b.limited)
 
 -- ---- and all answers to some frames are pieces
 

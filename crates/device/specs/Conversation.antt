@@ -1,17 +1,14 @@
 -- What the device says along a run of bytes that it hears.
-use Rattle.std.specs.Prelude.{ℕ, ◌≡◌, true, List, [], ◌∷◌, map, length}
+use Rattle.std.specs.Prelude.{ℕ, ◌≡◌, true, List, [], ◌∷◌, map, length, Some, None, Ok, Err}
 use Rattle.types.specs.declared.delimiter.FrameType.TheVariants.{Response}
 use Rattle.line.specs.Pieces.{Piece, enough, Cut}
 use Rattle.line.specs.Events.{verdict, gather, frames_in}
 use Rattle.line.specs.Runs.{says, ends_in}
 use Rattle.line.specs.Encode.{wire_of, layout, total}
 use Rattle.line.specs.machine.Room.{data_room}
-use Rattle.line.specs.machine.Frames.{padded, frame_of}
+use Rattle.line.specs.machine.Frames.{padded, frame_of, Heard}
 use Rattle.line.specs.machine.Demand.{frames_heard, refusals_heard}
 use Rattle.line.specs.declared.frame.Frame.{Frame}
-use Rattle.line.specs.declared.frame.Answer.{Answer}
-use Rattle.line.specs.declared.frame.Answer.TheVariants.{Silence, Found, Refused}
-use Rattle.line.specs.declared.frame.Heard.{Heard}
 use Rattle.framing.specs.Feed.{fresh_decoder}
 use Rattle.framing.specs.Demand.{decoder_hears}
 use Rattle.framing.specs.declared.decode.Decoder.{Decoder}
@@ -31,13 +28,10 @@ unfoldable pub answer_bytes : Frame → List ℕ
 answer_bytes f = sent_back f (answer_to f)
 
 -- to what is heard at a byte it says something where that is a frame
-abbrev pub answer_beside : Answer → Frame → List ℕ
-answer_beside Silence f = []
-answer_beside Found f = answer_bytes f
-answer_beside (Refused r) f = []
-
 abbrev pub answer_heard : Heard → List ℕ
-answer_heard h = answer_beside h.answer h.frame
+answer_heard (Ok None) = []
+answer_heard (Ok (Some f)) = answer_bytes f
+answer_heard (Err r) = []
 
 -- along a run: its decoder behind it, and all that it says
 abbrev pub listening : Decoder → List ℕ → Decoder

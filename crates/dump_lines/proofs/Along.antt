@@ -14,20 +14,16 @@ use borrow.Author.Tests.{lt-ltb, le-ltb}
 use Rattle.octets.specs.Put.{put}
 use Rattle.line.specs.declared.state.State.{State}
 use Rattle.line.specs.declared.moved.Moved.{Moved}
-use Rattle.line.specs.declared.moved.Ended.{Ended}
-use Rattle.line.specs.declared.moved.Ended.TheVariants.{Nothing, Frame, Refused}
-use Rattle.line.specs.contracts.moved.Ended.{the_type as Ended·type}
-use denote.Enum.Declared.{tag_of}
-use types.Run.{OneOf, miss}
+use Rattle.std.specs.Prelude.{Some, None, Ok, Err}
 use Rattle.line.specs.Events.{silence}
-use Rattle.line.specs.machine.Step.{moved_at, stored_at}
+use Rattle.line.specs.machine.Step.{Ended, moved_at, stored_at}
 use Rattle.line.specs.machine.Feed.{holding, fresh, settled_by, settled, stepped}
 use Rattle.dump_lines.specs.Text.{line_max}
 use Rattle.dump_lines.specs.Lines.{totals_of, next_dump, told, after, printed, count, taking, taken}
 use Rattle.dump_lines.specs.declared.Dump.{Dump}
 use Rattle.dump_lines.specs.declared.Taken.{Taken}
 use Rattle.line.specs.machine.Feed.{event_of}
-use Rattle.dump_lines.specs.Code.{Writes}
+use Rattle.dump_lines.specs.Code.{goes_on, Writes}
 use Rattle.dump_lines.proofs.Words.{unwritten, joined, reworded}
 
 pub same_totals : {b f r b' f' r' : ℕ} → b ≡ b' → f ≡ f' → r ≡ r' → totals_of b f r ≡ totals_of b' f' r'
@@ -35,18 +31,29 @@ same_totals p q r = rw (p, q, r)
 
 -- what the step gave, with what it ended: a piece that goes on is silence, and any other leaves a new decoder and its event
 module _ (s : State) (bs : List ℕ) (b : ℕ) {m : Moved} {kept : List ℕ} (p : m ≡ moved_at s b) (q : kept ≡ stored_at s bs b) where
-  pub goes_on : m.ended ≡ Nothing → stepped (holding s bs) b ≡ (holding m.state kept, silence)
+  pub still_open : goes_on m.ended ≡ true → stepped (holding s bs) b ≡ (holding m.state kept, silence)
   unfolding stepped
-  goes_on r = sym (ap₂ settled p q) ∙ ap (λ (x : Ended). settled_by x m.state kept) r
+  still_open r = sym (ap₂ settled p q) ∙ by m.ended r
+    where
+      by : (x : Ended) → goes_on x ≡ true → settled_by x m.state kept ≡ (holding m.state kept, silence)
+      by (Ok None) k = refl
+      by (Ok (Some c)) k = cc
+      by (Err r) k = cc
 
-  pub is_over : OneOf (1 ∷ 2 ∷ []) (tag_of Ended·type m.ended) → stepped (holding s bs) b ≡ (fresh, event_of m.ended kept)
+  pub is_over : goes_on m.ended ≡ false → stepped (holding s bs) b ≡ (fresh, event_of m.ended kept)
   unfolding stepped
   is_over r = sym (ap₂ settled p q) ∙ by m.ended r
     where
-      by : (x : Ended) → OneOf (1 ∷ 2 ∷ []) (tag_of Ended·type x) → settled_by x m.state kept ≡ (fresh, event_of x kept)
-      by Nothing k = absurd (miss (1 ∷ 2 ∷ []) 0 tt k)
-      by (Frame h c n) k = refl
-      by (Refused r) k = refl
+      by : (x : Ended) → goes_on x ≡ false → settled_by x m.state kept ≡ (fresh, event_of x kept)
+      by (Ok None) k = cc
+      by (Ok (Some c)) k = refl
+      by (Err r) k = refl
+
+-- and counts as silence, whatever stands in the bytes
+pub open_silent : (x : Ended) (bs : List ℕ) → goes_on x ≡ true → event_of x bs ≡ silence
+open_silent (Ok None) bs k = refl
+open_silent (Ok (Some c)) bs k = cc
+open_silent (Err r) bs k = cc
 
 -- one run behind another
 pub after_append : (d : Dump) (xs ys : List ℕ) → after d (xs ++ ys) ≡ after (after d xs) ys

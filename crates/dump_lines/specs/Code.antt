@@ -1,8 +1,15 @@
--- What only the code needs, and no sentence of document 01 says: a line is written part by part.
-use Rattle.std.specs.Prelude.{ℕ, ◌+◌, ◌≤◌, ◌≡◌, List, [], ◌∷◌, ◌++◌, length}
+-- What only the code needs, and no sentence of document 01 says: whether a byte ended nothing, and that a line is written part by
+-- part.
+use Rattle.std.specs.Prelude.{ℕ, ◌+◌, ◌≤◌, ◌≡◌, Bool, true, false, List, [], ◌∷◌, ◌++◌, length, Some, None, Ok, Err}
 use Rattle.octets.specs.Put.{put}
 use Rattle.octets.specs.Figures.{decimal}
+use Rattle.line.specs.machine.Step.{Ended}
 use Rattle.dump_lines.specs.Text.{space}
+
+abbrev pub goes_on : Ended → Bool
+goes_on (Ok None) = true
+goes_on (Ok (Some c)) = false
+goes_on (Err r) = false
 
 -- what each writer of a part does, where the part has room
 pub record Writes (before : List ℕ) (at : ℕ) (text : List ℕ) (behind : ℕ) (after : List ℕ) : Type 0 where

@@ -6,8 +6,7 @@ ghost use Rattle.refusal.specs.Outcome.{ends, reply_of};
 ghost use Rattle.types.specs.Address.{address_length, head_room};
 ghost use Rattle.line.specs.Layout.{most_data};
 ghost use Rattle.line.specs.machine.Room.{decoder_room};
-ghost use Rattle.line.specs.machine.Frames.{wire_at};
-ghost use Rattle.line.specs.machine.Feed.{event_of};
+ghost use Rattle.line.specs.machine.Feed.{wire_in, event_of};
 ghost use Rattle.octets.specs.Figures.{decimal as decimalText, hex as hexText};
 ghost use Rattle.dump_lines.specs.Text.{line_max, address_text, data_text, frame_line, refusal_line, line_of};
 ghost use Rattle.dump_lines.specs.Code.{start};
@@ -15,11 +14,11 @@ ghost use Rattle.dump_lines.specs.Text.{letter as typeLetter};
 ghost use Rattle.dump_lines.specs.Writing.{end_written};
 ghost use Rattle.dump_lines.specs.Code.{Writes};
 
-use line::{Ended, Head, ROOM};
+use line::{Completed, ROOM};
 use octets::{copy_into, decimal, hex};
 use refusal::Refusal;
 use types::consts::MAX_DATA_LENGTH;
-use types::{Address, AddressRead, FrameType, HEAD_ROOM, LONG_ADDRESS_LENGTH};
+use types::{Address, FrameType, HEAD_ROOM, LONG_ADDRESS_LENGTH};
 
 // No line is longer: a frame with a place of 20 digits, a long address, a command of 3 digits and as many data
 // as there can be, behind each word a space or the newline.
@@ -90,7 +89,7 @@ fn write_address(bytes: &[u8], long: bool, mark: u8, out: &mut [u8], at: usize) 
     ensures writes { Writes out.old at (address_text long (take (address_length long) bytes.now) ++ (mark ∷ [])) result out.new }
     ensures upper_bound { result ≤ at + 2 * address_length true + 1 }
 {
-    let AddressRead::Read { address, used } = Address::decode(bytes, long) else {
+    let Ok((address, used)) = Address::decode(bytes, long) else {
         return at;
     };
     let mut written = [0u8; LONG_ADDRESS_LENGTH];
@@ -130,21 +129,17 @@ fn write_start(letter: u8, place: u64, out: &mut [u8], at: usize) -> usize
 }
 
 // The frame that the bytes hold at its check byte.
-fn write_frame(
-    place: u64,
-    head: Head,
-    command: u8,
-    n: u8,
-    bytes: &[u8],
-    out: &mut [u8],
-    at: usize,
-) -> usize
+fn write_frame(place: u64, completed: Completed, bytes: &[u8], out: &mut [u8], at: usize) -> usize
     requires { (length bytes.now ≡ decoder_room) × (at + line_max ≤ length out.old) }
-    ensures { Writes out.old at (frame_line place (wire_at head command n bytes.now)) result out.new }
+    ensures { Writes out.old at (frame_line place (wire_in completed bytes.now)) result out.new }
 {
-    let frame_type = head.frame_type;
+    let Completed {
+        head,
+        command,
+        length: n,
+    } = completed;
     let after_start = write_start(b'F', place, out, at);
-    let after_type = write_letter(letter(frame_type), SPACE, out, after_start);
+    let after_type = write_letter(letter(head.frame_type), SPACE, out, after_start);
     let after_address = write_address(bytes, head.is_long, SPACE, out, after_type);
     let after_command = write_number(command as u64, SPACE, out, after_address);
     write_data(bytes, n, NEWLINE, out, after_command)
@@ -170,7 +165,7 @@ fn write_refusal(place: u64, refusal: Refusal, out: &mut [u8], at: usize) -> usi
 // The line of what a byte ended, if that has one, from place `at` on; gives back the place behind it.
 pub(crate) fn write_line(
     place: u64,
-    ended: Ended,
+    ended: Result<Option<Completed>, Refusal>,
     bytes: &[u8; ROOM],
     out: &mut [u8],
     at: usize,
@@ -179,13 +174,9 @@ pub(crate) fn write_line(
     ensures { Writes out.old at (line_of place (event_of ended bytes.now)) result out.new }
 {
     match ended {
-        Ended::Nothing => at,
-        Ended::Frame {
-            head,
-            command,
-            length,
-        } => write_frame(place, head, command, length, bytes, out, at),
-        Ended::Refused(refusal) => write_refusal(place, refusal, out, at),
+        Ok(None) => at,
+        Ok(Some(completed)) => write_frame(place, completed, bytes, out, at),
+        Err(refusal) => write_refusal(place, refusal, out, at),
     }
 }
 

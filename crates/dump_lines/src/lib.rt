@@ -10,12 +10,13 @@ ghost use Rattle.octets.specs.Put.{put};
 ghost use Rattle.dump_lines.specs.Text.{line_max};
 ghost use Rattle.line.specs.machine.Feed.{event_of};
 ghost use Rattle.dump_lines.specs.Writing.{end_written};
+ghost use Rattle.dump_lines.specs.Code.{goes_on};
 ghost use Rattle.dump_lines.specs.Lines.{more, totalled, dump, fresh_dump, next_dump, told, printed, taking, taken};
 
 pub use dump_text::LINE_MAX;
 use dump_text::{write_end, write_line};
 use framing::step;
-use line::{Ended, ROOM, State};
+use line::{Completed, ROOM, State};
 use refusal::Refusal;
 
 // Each stays at the largest number that it can be.
@@ -56,26 +57,23 @@ fn more(n: u64) -> u64
 }
 
 // One byte more, and what it ended.
-fn totalled(totals: Totals, ended: Ended) -> Totals
+fn totalled(totals: Totals, ended: Result<Option<Completed>, Refusal>) -> Totals
     ensures { (bs : List ℕ) → result ≡ totalled totals (event_of ended bs) }
 {
     let mut next = totals;
     next.bytes = more(totals.bytes);
     match ended {
-        Ended::Nothing => next,
-        Ended::Frame {
-            head: _,
-            command: _,
-            length: _,
-        } => {
-            next.frames = more(totals.frames);
-            next
-        }
-        Ended::Refused(_) => {
-            next.refusals = more(totals.refusals);
-            next
-        }
+        Ok(None) => {}
+        Ok(Some(_)) => next.frames = more(totals.frames),
+        Err(_) => next.refusals = more(totals.refusals),
     }
+    next
+}
+
+fn goes_on(ended: &Result<Option<Completed>, Refusal>) -> bool
+    ensures { result ≡ goes_on ended.now }
+{
+    matches!(ended, Ok(None))
 }
 
 // One byte. Where it ends a piece that has a line, the line is written from place `at` on, and the
@@ -94,17 +92,15 @@ fn turn(
     ensures out_after { out.new ≡ put out.old at (told (dump state bytes.old totals) byte) }
 {
     let moved = step(state, bytes, byte);
-    let next = moved.state;
-    let ended = moved.ended;
-    let counted = totalled(totals, ended);
-    if let Ended::Nothing = ended {
+    let counted = totalled(totals, moved.ended);
+    if goes_on(&moved.ended) {
         return Turned {
-            state: next,
+            state: moved.state,
             totals: counted,
             written: at,
         };
     }
-    let written = write_line(totals.bytes, ended, bytes, out, at);
+    let written = write_line(totals.bytes, moved.ended, bytes, out, at);
     *bytes = [0u8; ROOM];
     Turned {
         state: State::Hunting,

@@ -9,7 +9,7 @@ mod words;
 
 use commands::read_device_vars::{DeviceVariable, MAX_DEVICE_VARS, ReadDeviceVarsResponse};
 use commands::{Mode, Reading, read_device_vars, read_unique_id_by_tag};
-use framing::{Answer, Decoder, Frame, Heard, PayloadVerdict, encode_frame};
+use framing::{Decoder, Frame, PayloadVerdict, encode_frame};
 use refusal::Refusal;
 use std::io::Read;
 use types::consts::MIN_PREAMBLE_COUNT;
@@ -107,15 +107,11 @@ fn tell_frame(rt: &impl Print, frame: Frame) {
 }
 
 // At most bytes nothing is heard. Behind a frame or a refusal the decoder looks for the next frame.
-fn tell_heard(rt: &impl Print, heard: Heard) {
-    let answer = heard.answer;
-    match answer {
-        Answer::Silence => {}
-        Answer::Found => {
-            let frame = heard.frame;
-            tell_frame(rt, frame);
-        }
-        Answer::Refused(refusal) => {
+fn tell_heard(rt: &impl Print, heard: Result<Option<Frame>, Refusal>) {
+    match heard {
+        Ok(None) => {}
+        Ok(Some(frame)) => tell_frame(rt, frame),
+        Err(refusal) => {
             print(rt, b"line:");
             print_refusal(rt, refusal);
         }

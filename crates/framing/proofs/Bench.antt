@@ -11,7 +11,7 @@ use Rattle.types.specs.declared.delimiter.FrameType.TheVariants.{Request}
 use Rattle.line.specs.machine.Room.{data_room}
 use Rattle.framing.specs.Payload.{Reader, typed_in, typed_of, data_of}
 use Rattle.framing.specs.Requests.{asked_in, asked_of}
-use Rattle.framing.specs.RoundTrip.{Handed, heard_back}
+use Rattle.framing.specs.RoundTrip.{Handed, frame_back}
 use Rattle.framing.specs.Bench.{Sent, Hears, HostReads, DeviceReads}
 use Rattle.framing.proofs.Payloads.{carries_exactly}
 use Rattle.framing.proofs.Typed.{typed_carried}
@@ -20,7 +20,7 @@ use Rattle.framing.proofs.RoundTrip.{written_heard}
 
 module _ {call : List ℕ → Outcome} {h : Handed} {count : ℕ} {after : List ℕ} (sent : Sent call h count after) where
   -- the frame's data are the bytes that the call left
-  sent_data : {bytes : List ℕ} → Leaves bytes call → data_of (heard_back h).frame ≡ bytes
+  sent_data : {bytes : List ℕ} → Leaves bytes call → data_of (frame_back h) ≡ bytes
   sent_data leaves = take-append_seam h.payload (replicate (data_room - length h.payload) 0) ∙ sent.hands ∙ leaves sent.buffer sent.size sent.left sent.writes
 
   bench_heard : Hears h count after

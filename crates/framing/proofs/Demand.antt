@@ -10,11 +10,11 @@ use Rattle.line.specs.Runs.{Demand, says, ends_in}
 use Rattle.line.proofs.Machines.{renamed_says, renamed_ends}
 use Rattle.line.proofs.Scan.{hunt, scan, told}
 use Rattle.line.proofs.Follows.{demand}
-use Rattle.line.specs.machine.Frames.{answer_of, heard_of}
+use Rattle.line.specs.machine.Frames.{heard_of}
 use Rattle.line.specs.machine.Feed.{Held, fresh}
 use Rattle.line.specs.machine.Demand.{Call, feeds, resets, hears}
 use Rattle.line.specs.machine.Source.{Result, source_new, returned, traced, result_of, SmallCalls, runs_of, SomeOverlong}
-use Rattle.line.specs.declared.frame.Heard.{Heard}
+use Rattle.line.specs.machine.Frames.{Heard}
 use Rattle.line.proofs.machine.Image.{real, follows}
 use Rattle.line.proofs.machine.Demand as any
 use Rattle.line.proofs.machine.Renamed.{renamed_answered, renamed_reached, renamed_along}
@@ -69,7 +69,7 @@ unreached_eight d b v never =
     (exact.unreached_eight (held_of d) b v (λ r. never (renamed_reached hears decoder_hears decoder_of to_decoder fresh (held_of d) r)))
 
 -- and never for what a run leads to
-pub reached_no_eight : (d : Decoder) (b : ℕ) → b < 256 → DecoderReached d → (fed d b).heard.answer ≡ answer_of (refusal 8 []) → ⊥
+pub reached_no_eight : (d : Decoder) (b : ℕ) → b < 256 → DecoderReached d → (fed d b).heard ≡ heard_of (refusal 8 []) → ⊥
 reached_no_eight d b h r e = exact.reached_no_eight (held_of d) b h (renamed_reached decoder_hears hears held_of to_held fresh_decoder d r) e
 
 -- on every sequence of feeds and resets that the Rust's decoder completes, it returns what ours is heard to answer

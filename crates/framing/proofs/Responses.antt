@@ -9,14 +9,13 @@ use Rattle.line.specs.Events.{Event, silence, found, verdict, silent, said_by, d
 use Rattle.line.specs.Runs.{says}
 use Rattle.line.proofs.Machines.{says-append}
 use Rattle.line.specs.machine.Frames.{heard_of}
-use Rattle.line.specs.declared.frame.Heard.{Heard}
+use Rattle.line.specs.machine.Frames.{Heard}
 use Rattle.framing.specs.Feed.{fresh_decoder}
 use Rattle.framing.specs.Demand.{decoder_hears}
-use Rattle.framing.specs.Payload.{Reader, typed_in, typed_of}
+use Rattle.framing.specs.Payload.{Reader}
 use Rattle.framing.specs.Responses.{heard_at_check, HeardRead, HeardAsked}
 use Rattle.framing.proofs.Demand.{answered}
 use Rattle.framing.proofs.Payloads.{carries_exactly}
-use Rattle.framing.specs.Requests.{asked_of}
 use Rattle.framing.proofs.Typed.{typed_carried, reads_wire}
 use Rattle.framing.proofs.Requests.{asks_wire}
 
@@ -90,13 +89,12 @@ module _ (ps : List Piece) (n : ℕ) (w : Wire) (hold : AllHold ps) (holds : Hol
   heard_read k =
       let t = w.opening.frame_type in
       let ds = w.payload in
-      let here : typed_of k (heard_at_check ps n w).frame ≡ typed_in k t w.command ds = ap (λ (h : Heard). typed_of k h.frame) heard_at_check_lem ∙ reads_wire k w in
       record {
-        answer = ap (λ (h : Heard). h.answer) heard_at_check_lem;
-        reading = here;
-        response = λ r. here ∙ typed_carried k t w.command ds r.asked ((carries_exactly t ds).1 (r.sent, r.statuses, r.clean));
+        answer = heard_at_check_lem;
+        reading = reads_wire k w;
+        response = λ r. reads_wire k w ∙ typed_carried k t w.command ds r.asked ((carries_exactly t ds).1 (r.sent, r.statuses, r.clean));
       }
 
   -- and whatever a device reads
   pub heard_asked : {A : Type 0} (k : Reader A) → HeardAsked k ps n w
-  heard_asked k = record { asking = ap (λ (h : Heard). asked_of k h.frame) heard_at_check_lem ∙ asks_wire k w }
+  heard_asked k = record { answer = heard_at_check_lem; asking = asks_wire k w }

@@ -26,7 +26,7 @@ use Rattle.framing.specs.Feed.{fresh_decoder}
 use Rattle.framing.specs.Demand.{decoder_hears}
 use Rattle.framing.specs.RoundTrip.{Handed, written, IsDone, heard_back, HeardBehind, Lacks, NotFound}
 use Rattle.line.specs.declared.frame.Frame.{Frame}
-use Rattle.line.specs.declared.frame.Heard.{Heard}
+use Rattle.line.specs.machine.Frames.{Heard}
 use Rattle.framing.proofs.Demand.{answered}
 use Rattle.framing.proofs.Responses.{frame_heard_lem}
 

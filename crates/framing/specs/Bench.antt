@@ -10,7 +10,7 @@ use Rattle.framing.specs.Feed.{fresh_decoder}
 use Rattle.framing.specs.Demand.{decoder_hears}
 use Rattle.framing.specs.Payload.{Reader, typed_of}
 use Rattle.framing.specs.Requests.{asked_of}
-use Rattle.framing.specs.RoundTrip.{Handed, IsDone, heard_back}
+use Rattle.framing.specs.RoundTrip.{Handed, IsDone, frame_back, heard_back}
 
 -- a call wrote the data into a lent buffer; the encoder wrote them in a frame, behind as many preambles as a decoder wants, with an
 -- address within its limits
@@ -32,9 +32,9 @@ Hears h count after = says decoder_hears fresh_decoder (take count after) ≡ re
 -- and of it the host reads these bytes of a response, behind the status bytes
 pub record HostReads {A : Type 0} (k : Reader A) (bytes : List ℕ) (h : Handed) (count : ℕ) (after : List ℕ) : Type 0 where
   pub heard : Hears h count after
-  pub read : typed_of k (heard_back h).frame ≡ k.read bytes
+  pub read : typed_of k (frame_back h) ≡ k.read bytes
 
 -- or the device these bytes of a request
 pub record DeviceReads {A : Type 0} (k : Reader A) (bytes : List ℕ) (h : Handed) (count : ℕ) (after : List ℕ) : Type 0 where
   pub heard : Hears h count after
-  pub read : asked_of k (heard_back h).frame ≡ k.read bytes
+  pub read : asked_of k (frame_back h) ≡ k.read bytes

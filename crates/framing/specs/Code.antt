@@ -1,5 +1,4 @@
--- What only the code needs, and no sentence of document 01 says: the encoder writes a frame's head, then the data, then the check; and the
--- decoder makes an answer that has no frame in one place.
+-- What only the code needs, and no sentence of document 01 says: the encoder writes a frame's head, then the data, then the check.
 use Rattle.std.specs.Prelude.{ℕ, ◌+◌, ◌-◌, cond, List, [], ◌∷◌, ◌++◌, ltb, take, drop}
 use Rattle.octets.specs.Check.{check}
 use Rattle.octets.specs.Put.{put_if_fits}
@@ -9,10 +8,6 @@ use Rattle.types.specs.Delimiter.{delimiter}
 use Rattle.types.specs.Address.{address_length, is_long, address_bytes}
 use Rattle.line.specs.Layout.{preambles}
 use Rattle.line.specs.Encode.{opening_of}
-use Rattle.line.specs.machine.Frames.{no_frame}
-use Rattle.line.specs.declared.frame.Answer.{Answer}
-use Rattle.framing.specs.declared.decode.Decoder.{Decoder}
-use Rattle.framing.specs.declared.decode.Fed.{Fed}
 
 -- the bytes in front of the data: preamble, delimiter, address, command, and the count of the data
 abbrev pub head : FrameType → Address → ℕ → ℕ → ℕ → List ℕ
@@ -25,7 +20,3 @@ data_place a n = n + 3 + address_length (is_long a)
 -- the check of what stands from one place up to another, put behind it where there is room
 unfoldable pub sealed : List ℕ → ℕ → ℕ → List ℕ
 sealed buffer from to = cond (ltb to from) buffer (put_if_fits buffer to (check (take (to - from) (drop from buffer)) ∷ []))
-
--- an answer with no frame
-abbrev pub frameless : Answer → Decoder → Fed
-frameless answer next = record { heard = record { answer = answer; frame = no_frame }; next = next }

@@ -1,7 +1,7 @@
 -- The third demand, of the decoder by value: `line` says it of whatever hears bytes from a new one on.
 use Rattle.std.specs.Prelude.{ℕ, List}
 use Rattle.line.specs.machine.Demand.{Call, Answered, Reached, Value, heard_along}
-use Rattle.line.specs.declared.frame.Heard.{Heard}
+use Rattle.line.specs.machine.Frames.{Heard}
 use Rattle.framing.specs.Feed.{held_of, fresh_decoder, fed}
 use Rattle.framing.specs.declared.decode.Decoder.{Decoder}
 

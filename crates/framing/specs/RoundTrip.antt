@@ -1,5 +1,5 @@
 -- Document 01, 'Wire layout' and 'Examples': what a decoder makes of a frame that the encoder wrote.
-use Rattle.std.specs.Prelude.{ℕ, ◌-◌, ◌<◌, ◌≡◌, ◌≢◌, List, [], ◌∷◌, ◌++◌, map, length, take, replicate}
+use Rattle.std.specs.Prelude.{ℕ, ◌-◌, ◌<◌, ◌≡◌, ◌≢◌, List, [], ◌∷◌, ◌++◌, map, length, take, replicate, Some, Ok}
 use Rattle.refusal.specs.Outcome.{ends, done}
 use Rattle.types.specs.declared.delimiter.FrameType.{FrameType}
 use Rattle.types.specs.declared.address.Address.{Address}
@@ -10,13 +10,11 @@ use Rattle.line.specs.Events.{silence, said_by}
 use Rattle.line.specs.Runs.{says}
 use Rattle.line.specs.Encode.{wire_of, encoded}
 use Rattle.line.specs.machine.Room.{data_room}
-use Rattle.line.specs.machine.Frames.{padded, frame_of, heard_of}
+use Rattle.line.specs.machine.Frames.{padded, frame_of, Heard, heard_of}
 use Rattle.framing.specs.Feed.{fresh_decoder}
 use Rattle.line.specs.machine.Demand.{frames_heard}
 use Rattle.framing.specs.Demand.{decoder_hears}
 use Rattle.line.specs.declared.frame.Frame.{Frame}
-use Rattle.line.specs.declared.frame.Answer.TheVariants.{Found}
-use Rattle.line.specs.declared.frame.Heard.{Heard}
 
 -- what a caller hands to the encoder, each number that reaches the line in the range of its type
 pub record Handed : Type 0 where
@@ -37,18 +35,18 @@ written h = wire_of h.frame_type h.address h.command h.payload
 abbrev pub IsDone : Handed → List ℕ → ℕ → List ℕ → Type 0
 IsDone h before count after = encoded h.frame_type h.address h.command h.payload h.preamble_count before ≡ ends (done (count ∷ [])) after
 
--- the frame as it was handed over, told to whoever reads it
-abbrev pub heard_back : Handed → Heard
-heard_back h = record {
-  answer = Found;
-  frame = record {
-    frame_type = h.frame_type;
-    address = h.address;
-    command = h.command;
-    «data» = padded data_room h.payload;
-    length = length h.payload;
-  };
+-- the frame as it was handed over, and told to whoever reads it
+abbrev pub frame_back : Handed → Frame
+frame_back h = record {
+  frame_type = h.frame_type;
+  address = h.address;
+  command = h.command;
+  «data» = padded data_room h.payload;
+  length = length h.payload;
 }
+
+abbrev pub heard_back : Handed → Heard
+heard_back h = Ok (Some (frame_back h))
 
 -- behind whole pieces, a new decoder hears what those say, then silence up to the last byte that was written, and there the frame
 abbrev pub HeardBehind : Handed → List Piece → ℕ → List ℕ → Type 0

@@ -2,14 +2,24 @@
 // lent and never copied. Document 01, 'How a run of bytes is cut'.
 ghost use Rattle.std.specs.Prelude.{◌≡◌, set};
 ghost use Rattle.types.specs.Delimiter.{delimiter_of};
-ghost use Rattle.line.specs.machine.Step.{over, hunted, preambled, delimited, mixed, addressed, byte_counted, loaded, checked, moved_at, stored_at};
+ghost use Rattle.line.specs.machine.Step.{going, over, hunted, preambled, delimited, mixed, addressed, byte_counted, loaded, checked, moved_at, stored_at};
 
-use line::{Ended, Head, Moved, PREAMBLE_CAP, State};
+use line::{Completed, Head, Moved, PREAMBLE_CAP, State};
 use refusal::Refusal;
 use types::consts::{MIN_PREAMBLE_COUNT, PREAMBLE_BYTE};
-use types::{Delimiter, HEAD_ROOM, head_length, read_delimiter};
+use types::{HEAD_ROOM, head_length, read_delimiter};
 
-fn piece_over(ended: Ended) -> Moved
+// The piece goes on.
+fn going(state: State) -> Moved
+    ensures { result ≡ going state }
+{
+    Moved {
+        state,
+        ended: Ok(None),
+    }
+}
+
+fn piece_over(ended: Result<Option<Completed>, Refusal>) -> Moved
     ensures { result ≡ over ended }
 {
     Moved {
@@ -21,35 +31,26 @@ fn piece_over(ended: Ended) -> Moved
 fn hunting(byte: u8) -> Moved
     ensures { result ≡ hunted byte }
 {
-    if byte == PREAMBLE_BYTE {
-        return Moved {
-            state: State::Preamble(1),
-            ended: Ended::Nothing,
-        };
-    }
-    Moved {
-        state: State::Hunting,
-        ended: Ended::Nothing,
-    }
+    going(if byte == PREAMBLE_BYTE {
+        State::Preamble(1)
+    } else {
+        State::Hunting
+    })
 }
 
 fn process_delimiter(byte: u8) -> Moved
     ensures { result ≡ delimited byte (delimiter_of byte) }
 {
     match read_delimiter(byte) {
-        Delimiter::Known(opening) => {
-            let frame_type = opening.frame_type;
-            let head = Head {
-                frame_type,
+        Some(opening) => going(State::Address {
+            head: Head {
+                frame_type: opening.frame_type,
                 is_long: opening.is_long,
                 check: byte,
-            };
-            Moved {
-                state: State::Address { head, received: 0 },
-                ended: Ended::Nothing,
-            }
-        }
-        Delimiter::Unknown => piece_over(Ended::Refused(Refusal::InvalidDelimiter(byte))),
+            },
+            received: 0,
+        }),
+        None => piece_over(Err(Refusal::InvalidDelimiter(byte))),
     }
 }
 
@@ -58,22 +59,14 @@ fn preamble(count: u8, byte: u8) -> Moved
     ensures { result ≡ preambled count byte }
 {
     if byte == PREAMBLE_BYTE {
-        if count < PREAMBLE_CAP {
-            return Moved {
-                state: State::Preamble(count + 1),
-                ended: Ended::Nothing,
-            };
-        }
-        return Moved {
-            state: State::Preamble(PREAMBLE_CAP),
-            ended: Ended::Nothing,
-        };
+        return going(State::Preamble(if count < PREAMBLE_CAP {
+            count + 1
+        } else {
+            PREAMBLE_CAP
+        }));
     }
     if count < MIN_PREAMBLE_COUNT {
-        return Moved {
-            state: State::Hunting,
-            ended: Ended::Nothing,
-        };
+        return going(State::Hunting);
     }
     process_delimiter(byte)
 }
@@ -82,11 +75,9 @@ fn preamble(count: u8, byte: u8) -> Moved
 fn mix(head: Head, byte: u8) -> Head
     ensures { result ≡ mixed head byte }
 {
-    let frame_type = head.frame_type;
     Head {
-        frame_type,
-        is_long: head.is_long,
         check: head.check ^ byte,
+        ..head
     }
 }
 
@@ -94,85 +85,71 @@ fn address(head: Head, received: u8, byte: u8) -> Moved
     ensures { result ≡ addressed head received byte }
 {
     let mixed = mix(head, byte);
-    if received < head_length(head.opening()) - 1 {
-        return Moved {
-            state: State::Address {
-                head: mixed,
-                received: received + 1,
-            },
-            ended: Ended::Nothing,
-        };
-    }
-    Moved {
-        state: State::Command { head: mixed },
-        ended: Ended::Nothing,
-    }
+    going(if received < head_length(head.opening()) - 1 {
+        State::Address {
+            head: mixed,
+            received: received + 1,
+        }
+    } else {
+        State::Command { head: mixed }
+    })
 }
 
 fn byte_count(head: Head, command: u8, byte: u8) -> Moved
     ensures { result ≡ byte_counted head command byte }
 {
     let mixed = mix(head, byte);
-    if byte == 0 {
-        return Moved {
-            state: State::Checksum {
-                head: mixed,
-                command,
-                expected: 0,
-            },
-            ended: Ended::Nothing,
-        };
-    }
-    Moved {
-        state: State::Data {
+    going(if byte == 0 {
+        State::Checksum {
+            head: mixed,
+            command,
+            expected: 0,
+        }
+    } else {
+        State::Data {
             head: mixed,
             command,
             expected: byte,
             received: 0,
-        },
-        ended: Ended::Nothing,
-    }
+        }
+    })
 }
 
 fn data(head: Head, command: u8, expected: u8, received: u8, byte: u8) -> Moved
     ensures { result ≡ loaded head command expected received byte }
 {
     let mixed = mix(head, byte);
-    if received as usize + 1 < expected as usize {
-        return Moved {
-            state: State::Data {
-                head: mixed,
-                command,
-                expected,
-                received: received + 1,
-            },
-            ended: Ended::Nothing,
-        };
-    }
-    Moved {
-        state: State::Checksum {
+    going(if received as usize + 1 < expected as usize {
+        State::Data {
             head: mixed,
             command,
             expected,
-        },
-        ended: Ended::Nothing,
-    }
+            received: received + 1,
+        }
+    } else {
+        State::Checksum {
+            head: mixed,
+            command,
+            expected,
+        }
+    })
 }
 
 fn checksum(head: Head, command: u8, expected: u8, byte: u8) -> Moved
     ensures { result ≡ checked head command expected byte }
 {
-    if byte == head.check {
-        return piece_over(Ended::Frame {
+    piece_over(if byte == head.check {
+        Ok(Some(Completed {
             head,
             command,
             length: expected,
-        });
-    }
-    piece_over(Ended::Refused(Refusal::ChecksumMismatch {
-        expected: head.check,
-        actual: byte,
-    }))
+        }))
+    } else {
+        Err(Refusal::ChecksumMismatch {
+            expected: head.check,
+            actual: byte,
+        })
+    })
 }
 
 // A byte is kept at its place, where there is one.
@@ -198,13 +175,10 @@ pub fn step(state: State, bytes: &mut [u8], byte: u8) -> Moved
             keep(bytes, received as usize, byte);
             address(head, received, byte)
         }
-        State::Command { head } => Moved {
-            state: State::ByteCount {
-                head: mix(head, byte),
-                command: byte,
-            },
-            ended: Ended::Nothing,
-        },
+        State::Command { head } => going(State::ByteCount {
+            head: mix(head, byte),
+            command: byte,
+        }),
         State::ByteCount { head, command } => byte_count(head, command, byte),
         State::Data {
             head,

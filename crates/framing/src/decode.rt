@@ -2,12 +2,11 @@
 ghost use Rattle.std.specs.Prelude.{◌≡◌};
 ghost use Rattle.line.specs.machine.Feed.{settled};
 ghost use Rattle.framing.specs.Feed.{fresh_decoder, decoder_reachable, renamed, fed_of, fed};
-ghost use Rattle.framing.specs.Code.{frameless};
 
 use crate::byte::step;
 use crate::frame::frame_of;
 use crate::reachable::is_reachable;
-use line::{Answer, Ended, Frame, Heard, Moved, ROOM, State};
+use line::{Frame, Moved, ROOM, State};
 use refusal::Refusal;
 
 // The bytes are those of the address and of the data, zero where nothing was read.
@@ -20,41 +19,29 @@ pub struct Decoder {
 // What feeding a byte comes to: what is heard, and the decoder for the next byte.
 #[derive(Clone, Copy)]
 pub struct Fed {
-    pub heard: Heard,
+    pub heard: Result<Option<Frame>, Refusal>,
     pub next: Decoder,
-}
-
-fn frameless(answer: Answer, next: Decoder) -> Fed
-    ensures { result ≡ frameless answer next }
-{
-    Fed {
-        heard: Heard {
-            answer,
-            frame: Frame::empty(),
-        },
-        next,
-    }
 }
 
 fn ended_with(moved: Moved, bytes: [u8; ROOM]) -> Fed
     ensures { result ≡ fed_of (renamed (settled moved bytes)) }
 {
-    let state = moved.state;
-    let ended = moved.ended;
-    match ended {
-        Ended::Nothing => frameless(Answer::Silence, Decoder { state, bytes }),
-        Ended::Frame {
-            head,
-            command,
-            length,
-        } => Fed {
-            heard: Heard {
-                answer: Answer::Found,
-                frame: frame_of(head, command, length, &bytes),
+    match moved.ended {
+        Ok(None) => Fed {
+            heard: Ok(None),
+            next: Decoder {
+                state: moved.state,
+                bytes,
             },
+        },
+        Ok(Some(completed)) => Fed {
+            heard: Ok(Some(frame_of(completed, &bytes))),
             next: Decoder::new(),
         },
-        Ended::Refused(refusal) => frameless(Answer::Refused(refusal), Decoder::new()),
+        Err(refusal) => Fed {
+            heard: Err(refusal),
+            next: Decoder::new(),
+        },
     }
 }
 
@@ -79,9 +66,7 @@ impl Decoder {
     pub fn is_reachable(self) -> bool
         ensures { result ≡ decoder_reachable self }
     {
-        let state = self.state;
-        let bytes = self.bytes;
-        is_reachable(state, &bytes)
+        is_reachable(self.state, &self.bytes)
     }
 
     // Takes one byte. A decoder that no run of bytes leads to is refused with 8 and comes back as it
@@ -89,12 +74,14 @@ impl Decoder {
     pub fn feed(self, byte: u8) -> Fed
         ensures { result ≡ fed self byte }
     {
-        let state = self.state;
-        let mut bytes = self.bytes;
-        if is_reachable(state, &bytes) {
-            let moved = step(state, &mut bytes, byte);
-            return ended_with(moved, bytes);
+        if !self.is_reachable() {
+            return Fed {
+                heard: Err(Refusal::BadState),
+                next: self,
+            };
         }
-        frameless(Answer::Refused(Refusal::BadState), self)
+        let mut bytes = self.bytes;
+        let moved = step(self.state, &mut bytes, byte);
+        ended_with(moved, bytes)
     }
 }

@@ -12,6 +12,6 @@ mod reachable;
 pub use byte::step;
 pub use decode::{Decoder, Fed};
 pub use encode::encode_frame;
-pub use line::{Answer, Frame, Head, Heard, State};
+pub use line::{Frame, Head, State};
 pub use payload::{PayloadVerdict, payload_part, payload_verdict, request_verdict, typed_verdict};
 pub use reachable::is_reachable;

@@ -20,7 +20,7 @@ use Rattle.line.specs.machine.Feed.{blank, fresh, event_of, settled_by, settled,
 use Rattle.line.specs.machine.Reachable.{reachable_at}
 use Rattle.line.specs.declared.state.State.{State}
 use Rattle.line.specs.declared.moved.Moved.{Moved}
-use Rattle.line.specs.declared.moved.Ended.{Ended}
+use Rattle.line.specs.machine.Step.{Ended}
 use Rattle.line.proofs.machine.Settled.{settled_event}
 use Rattle.host.specs.Header.{header_of}
 use Rattle.host.specs.Record.{record_of, record_room}

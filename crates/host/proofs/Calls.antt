@@ -31,8 +31,8 @@ use Rattle.line.specs.declared.state.State.TheVariants.{
   Checksum,
 }
 use Rattle.line.specs.declared.moved.Moved.{Moved}
-use Rattle.line.specs.declared.moved.Ended.{Ended}
-use Rattle.line.specs.declared.moved.Ended.TheVariants as ended
+use Rattle.line.specs.machine.Step.{Ended}
+use Rattle.std.specs.Prelude.{Some, None, Ok, Err}
 use Rattle.line.proofs.machine.Image.{real, reachable_real, stepped_real, follows}
 use Rattle.line.proofs.machine.Small.{real_value}
 use Rattle.line.proofs.machine.Demand.{feeding_demand}
@@ -161,9 +161,9 @@ called xs k h =
 
 settled_whole : (x : Ended) (s : State) (bs : List ℕ) → length bs ≡ decoder_room → length (settled_by x s bs).0.bytes ≡ decoder_room
 unfolding blank
-settled_whole ended.Nothing s bs e = e
-settled_whole (ended.Frame h c n) s bs e = refl
-settled_whole (ended.Refused r) s bs e = refl
+settled_whole (Ok None) s bs e = e
+settled_whole (Ok (Some c)) s bs e = refl
+settled_whole (Err r) s bs e = refl
 
 -- no call changes how long a block is
 call_whole : (block : List ℕ) (c : HostCall) → length block ≡ block_size → length (calling block c).0 ≡ block_size

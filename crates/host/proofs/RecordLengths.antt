@@ -13,10 +13,9 @@ use Rattle.types.specs.Address.{head_room, is_long, read_address, address_bytes}
 use Rattle.types.proofs.Addresses.{address_length_le, length-address}
 use Rattle.line.specs.Layout.{Wire, address_of}
 use Rattle.line.specs.machine.Room.{decoder_room}
-use Rattle.line.specs.machine.Frames.{wire_at}
-use Rattle.line.specs.machine.Feed.{event_of}
-use Rattle.line.specs.declared.moved.Ended.{Ended}
-use Rattle.line.specs.declared.moved.Ended.TheVariants as ended
+use Rattle.line.specs.machine.Feed.{wire_in, event_of}
+use Rattle.line.specs.machine.Step.{Ended}
+use Rattle.std.specs.Prelude.{Some, None, Ok, Err}
 use Rattle.host.specs.Record.{refusal_first, refusal_record, record_of, record_room}
 
 refusal_short : (r : Refusal) → length (refusal_record r) ≤ record_room
@@ -29,10 +28,10 @@ refusal_short r = by (eqb (number_of r) 4) (eqb (number_of r) 5)
 
 pub event_short : (x : Ended) (bs : List ℕ) → length bs ≡ decoder_room → length (record_of (event_of x bs)) ≤ record_room
 unfolding record_of
-event_short ended.Nothing bs e = omega arith
-event_short (ended.Frame h c n) bs e =
-    let w : Wire = wire_at h c n bs in
+event_short (Ok None) bs e = omega arith
+event_short (Ok (Some c)) bs e =
+    let w : Wire = wire_in c bs in
     let ab = address_bytes (read_address w.opening.is_long (address_of w)) in
     let size : length ab ≤ head_room = omega (arith, length-address (read_address w.opening.is_long (address_of w)), address_length_le (is_long (read_address w.opening.is_long (address_of w)))) in
-    omega (arith, length-append ab (c ∷ length w.payload ∷ w.payload), size, length-take n (drop head_room bs), length-drop head_room bs)
-event_short (ended.Refused r) bs e = refusal_short r
+    omega (arith, length-append ab (w.command ∷ length w.payload ∷ w.payload), size, length-take c.length (drop head_room bs), length-drop head_room bs)
+event_short (Err r) bs e = refusal_short r

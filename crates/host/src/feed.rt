@@ -8,7 +8,7 @@ use crate::block_header::HEADER_SIZE;
 use crate::load::{BLOCK_SIZE, load, store_state};
 use crate::records::{RECORD_ROOM, write_record};
 use framing::step;
-use line::{Ended, Moved};
+use line::Moved;
 use octets::fill;
 
 // 1000 and the number of the refusal: BadState is 8, BufferTooSmall 2.
@@ -32,17 +32,11 @@ fn settle(moved: Moved, block: &mut [u8], room: &mut [u8]) -> u32
     requires { (length block.old ≡ block_size) × (record_room ≤ length room.old) }
     ensures { tells result block.new room.new ≡ recorded (settled moved (drop header_size block.old)) room.old }
 {
-    let state = moved.state;
-    let ended = moved.ended;
-    let count = write_record(ended, &block[HEADER_SIZE..], room);
-    match ended {
-        Ended::Nothing => store_state(state, block),
-        Ended::Frame {
-            head: _,
-            command: _,
-            length: _,
-        } => fill(block, 0),
-        Ended::Refused(_) => fill(block, 0),
+    let count = write_record(moved.ended, &block[HEADER_SIZE..], room);
+    match moved.ended {
+        Ok(None) => store_state(moved.state, block),
+        Ok(Some(_)) => fill(block, 0),
+        Err(_) => fill(block, 0),
     }
     count
 }

@@ -3,12 +3,11 @@ ghost use Rattle.std.specs.Prelude.{◌≡◌, ◌+◌, ◌≤◌, length};
 ghost use Rattle.octets.specs.Put.{put};
 ghost use Rattle.types.specs.Address.{address_length, is_long, address_bytes};
 ghost use Rattle.line.specs.machine.Room.{decoder_room};
-ghost use Rattle.line.specs.machine.Frames.{wire_at};
-ghost use Rattle.line.specs.machine.Feed.{event_of};
+ghost use Rattle.line.specs.machine.Feed.{wire_in, event_of};
 ghost use Rattle.host.specs.Record.{record_room, frame_first, frame_record, refusal_record, record_of};
 
 use crate::block_header::long_bit;
-use line::{Ended, Head};
+use line::Completed;
 use octets::copy_into;
 use refusal::Refusal;
 use types::consts::MAX_DATA_LENGTH;
@@ -34,10 +33,15 @@ fn frame_first(opening: Opening) -> u8
 
 // A frame's record, and how many bytes it has. The address goes through our own reader and writer, so
 // that bits that say nothing are zero.
-fn write_frame(head: Head, command: u8, count: u8, bytes: &[u8], room: &mut [u8]) -> u32
+fn write_frame(completed: Completed, bytes: &[u8], room: &mut [u8]) -> u32
     requires { (length bytes.now ≡ decoder_room) × (record_room ≤ length room.old) }
-    ensures { (result ≡ length (frame_record (wire_at head command count bytes.now))) × (room.new ≡ put room.old 0 (frame_record (wire_at head command count bytes.now))) }
+    ensures { (result ≡ length (frame_record (wire_in completed bytes.now))) × (room.new ≡ put room.old 0 (frame_record (wire_in completed bytes.now))) }
 {
+    let Completed {
+        head,
+        command,
+        length: count,
+    } = completed;
     let long = head.is_long;
     room[0] = frame_first(head.opening());
     let address = Address::from_bytes([bytes[0], bytes[1], bytes[2], bytes[3], bytes[4]], long);
@@ -71,17 +75,17 @@ fn write_refusal(refusal: Refusal, room: &mut [u8]) -> u32
 }
 
 // The record of what a byte ended, at the front of the room, and its length: silence has none.
-pub(crate) fn write_record(ended: Ended, bytes: &[u8], room: &mut [u8]) -> u32
+pub(crate) fn write_record(
+    ended: Result<Option<Completed>, Refusal>,
+    bytes: &[u8],
+    room: &mut [u8],
+) -> u32
     requires { (length bytes.now ≡ decoder_room) × (record_room ≤ length room.old) }
     ensures { (result ≡ length (record_of (event_of ended bytes.now))) × (room.new ≡ put room.old 0 (record_of (event_of ended bytes.now))) }
 {
     match ended {
-        Ended::Nothing => 0,
-        Ended::Frame {
-            head,
-            command,
-            length,
-        } => write_frame(head, command, length, bytes, room),
-        Ended::Refused(refusal) => write_refusal(refusal, room),
+        Ok(None) => 0,
+        Ok(Some(completed)) => write_frame(completed, bytes, room),
+        Err(refusal) => write_refusal(refusal, room),
     }
 }

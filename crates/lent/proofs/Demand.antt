@@ -10,7 +10,7 @@ use Rattle.line.specs.Runs.{says}
 use Rattle.line.specs.Events.{Event, silence, found, rejected, dictated, gather, loud_in}
 use Rattle.line.proofs.Follows.{gathered}
 use Rattle.line.specs.machine.Frames.{heard_of}
-use Rattle.line.specs.declared.frame.Heard.{Heard}
+use Rattle.line.specs.machine.Frames.{Heard}
 use Rattle.framing.specs.declared.decode.Decoder.{Decoder}
 use Rattle.framing.specs.Feed.{fresh_decoder}
 use Rattle.framing.specs.Demand.{decoder_hears}

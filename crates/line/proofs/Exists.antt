@@ -5,15 +5,14 @@ use native.Mathlib.Decide.{dec_le}
 use mathlib.Core.Path.{◌≡◌, refl, sym, ap, subst, ◌∙◌}
 use mathlib.Core.Logic.{◌≢◌}
 use mathlib.Core.Bool.{Bool, true, false, cond}
-use mathlib.Core.Option.{Option, none, some}
 use mathlib.Core.List.{List, [], ◌∷◌, ◌++◌, append-nil, append_assoc, cons≢nil}
 use lib.ListN.{length, replicate, length-append, length-replicate, replicate-append-replicate}
 use lib.Seq.{append_snoc}
 use lib.Dec.{eqb, leb}
 use borrow.Author.Tests.{eqb-true, eqb-false, leb-true, leb-false}
 use Rattle.octets.proofs.Check.{check_below}
-use Rattle.types.specs.declared.delimiter.Delimiter.{Delimiter}
-use Rattle.types.specs.declared.delimiter.Delimiter.TheVariants.{Known, Unknown}
+use Rattle.std.specs.Prelude.{Option, Some, None}
+use Rattle.types.specs.declared.delimiter.Opening.{Opening}
 use Rattle.types.specs.Delimiter.{delimiter, delimiter_of}
 use Rattle.types.specs.Address.{head_length}
 use Rattle.types.proofs.Delimiters.{Right, delimiter_right, delimiter_small}
@@ -62,12 +61,12 @@ use Rattle.line.proofs.Steps.{steps_ends, held_steps}
 use Rattle.line.proofs.Bytes.{bytes-append, bytes_right, bytes-replicate, one_more}
 
 abbrev bytes_out : Option Piece → List ℕ
-bytes_out none = []
-bytes_out (some p) = bytes_of p
+bytes_out None = []
+bytes_out (Some p) = bytes_of p
 
 abbrev HoldsOut : Option Piece → Type 0
-HoldsOut none = Unit {0}
-HoldsOut (some p) = Holds p
+HoldsOut None = Unit {0}
+HoldsOut (Some p) = Holds p
 
 -- one byte more: the state is fine again, a piece that is given holds, and no byte is lost
 record Sound (s : Scan) (b : ℕ) (r : Scan × Option Piece) : Type 0 where
@@ -81,7 +80,7 @@ behind d hs xs ys = ap (λ (bs : List ℕ). d ∷ bs) (sym (append_assoc hs xs y
 
 -- inside a frame
 module _ (n b : ℕ) (many : enough ≤ n) (small : b < 256) where
-  sound_on : (p q : Phase) → Bytes (opened p) → Sized q → opened q ≡ opened p ++ (b ∷ []) → Sound (within n p) b (within n q, none)
+  sound_on : (p q : Phase) → Bytes (opened p) → Sized q → opened q ≡ opened p ++ (b ∷ []) → Sound (within n p) b (within n q, None)
   sound_on p q k z e =
       record {
         fine = (many, z, subst Bytes (sym e) (bytes-append (opened p) (b ∷ []) k (small, tt)));
@@ -92,14 +91,14 @@ module _ (n b : ℕ) (many : enough ≤ n) (small : b < 256) where
   sound_within : (p : Phase) → Sized p → Bytes (opened p) → Sound (within n p) b (scan_within n p b)
   unfolding scan_within
   sound_within (addressing o hs) z k =
-      one_more (λ (s : Scan). Sound (within n (addressing o hs)) b (s, none)) hs b (head_length o)
+      one_more (λ (s : Scan). Sound (within n (addressing o hs)) b (s, None)) hs b (head_length o)
       (within n (commanding o (hs ++ (b ∷ [])))) (within n (addressing o (hs ++ (b ∷ [])))) z
       (λ full. sound_on (addressing o hs) (commanding o (hs ++ (b ∷ []))) k full refl)
       (λ short. sound_on (addressing o hs) (addressing o (hs ++ (b ∷ []))) k short refl)
   sound_within (commanding o hs) z k = sound_on (commanding o hs) (counting o hs b) k z refl
   sound_within (counting o hs c) z k = by (eqb 0 b) refl
     where
-      by : (y : Bool) → eqb 0 b ≡ y → Sound (within n (counting o hs c)) b (cond y (within n (checking (wire o hs c []))) (within n (loading o hs c b [])), none)
+      by : (y : Bool) → eqb 0 b ≡ y → Sound (within n (counting o hs c)) b (cond y (within n (checking (wire o hs c []))) (within n (loading o hs c b [])), None)
       by true e =
           sound_on (counting o hs c) (checking (wire o hs c [])) k (record { heading_fits = z; count_fits = omega arith })
           (rw (sym (eqb-true 0 b e)) (behind (delimiter o) hs (c ∷ []) (0 ∷ [])))
@@ -107,21 +106,21 @@ module _ (n b : ℕ) (many : enough ≤ n) (small : b < 256) where
           sound_on (counting o hs c) (loading o hs c b []) k (z, omega (arith, eqb-false 0 b e)) (behind (delimiter o) hs (c ∷ []) (b ∷ []))
   sound_within (loading o hs c m ds) z k =
       let count_small : m < 256 = (bytes_right hs (c ∷ m ∷ ds) k.1).1.0 in
-      one_more (λ (s : Scan). Sound (within n (loading o hs c m ds)) b (s, none)) ds b m
+      one_more (λ (s : Scan). Sound (within n (loading o hs c m ds)) b (s, None)) ds b m
       (within n (checking (wire o hs c (ds ++ (b ∷ []))))) (within n (loading o hs c m (ds ++ (b ∷ [])))) z.1
       (λ full. sound_on (loading o hs c m ds) (checking (wire o hs c (ds ++ (b ∷ [])))) k (record { heading_fits = z.0; count_fits = omega (arith, full, count_small) })
       (ap (λ (j : ℕ). delimiter o ∷ (hs ++ (c ∷ j ∷ (ds ++ (b ∷ []))))) full ∙ behind (delimiter o) hs (c ∷ m ∷ ds) (b ∷ [])))
       (λ short. sound_on (loading o hs c m ds) (loading o hs c m (ds ++ (b ∷ []))) k (z.0, short) (behind (delimiter o) hs (c ∷ m ∷ ds) (b ∷ [])))
   sound_within (checking w) z k = by (eqb b (check_of w)) refl
     where
-      by : (y : Bool) → eqb b (check_of w) ≡ y → Sound (within n (checking w)) b (hunt, some (cond y (frame n w) (bad_check n w b)))
+      by : (y : Bool) → eqb b (check_of w) ≡ y → Sound (within n (checking w)) b (hunt, Some (cond y (frame n w) (bad_check n w b)))
       by true e = record { fine = tt; out = (many, z); kept = append-nil (bytes_of (frame n w)) ∙ rw (sym (eqb-true b (check_of w) e)) }
       by false e = record { fine = tt; out = (many, z, eqb-false b (check_of w) e); kept = append-nil (bytes_of (bad_check n w b)) }
 
-sound_enter : (n b : ℕ) → enough ≤ n → b < 256 → b ≢ 0xFF → (d : Delimiter) → Right b d → Sound (pre n) b (scan_enter n b d)
-sound_enter n b h k other (Known o) q =
+sound_enter : (n b : ℕ) → enough ≤ n → b < 256 → b ≢ 0xFF → (d : Option Opening) → Right b d → Sound (pre n) b (scan_enter n b d)
+sound_enter n b h k other (Some o) q =
     record { fine = (h, head_some o, (rw (sym q) k, tt)); out = tt; kept = ap (λ (d : ℕ). preambles n ++ (d ∷ [])) (sym q) }
-sound_enter n b h k other Unknown q = record { fine = tt; out = (h, other, q); kept = append-nil (preambles n ++ (b ∷ [])) }
+sound_enter n b h k other None q = record { fine = tt; out = (h, other, q); kept = append-nil (preambles n ++ (b ∷ [])) }
 
 preambles-snoc : (n : ℕ) → preambles (suc n) ≡ preambles n ++ (0xFF ∷ [])
 preambles-snoc zero = refl
@@ -131,16 +130,16 @@ sound : (s : Scan) (b : ℕ) → Fine s → b < 256 → Sound s b (scan s b)
 unfolding scan
 sound hunt b f k = by (eqb b 0xFF) refl
   where
-    by : (y : Bool) → eqb b 0xFF ≡ y → Sound hunt b (cond y (pre 1, none) (hunt, some (noise b)))
+    by : (y : Bool) → eqb b 0xFF ≡ y → Sound hunt b (cond y (pre 1, None) (hunt, Some (noise b)))
     by true e = record { fine = omega arith; out = tt; kept = ap (λ (d : ℕ). d ∷ []) (sym (eqb-true b 0xFF e)) }
     by false e = record { fine = tt; out = eqb-false b 0xFF e; kept = refl }
 sound (pre n) b f k = by (eqb b 0xFF) refl
   where
-    by' : (y : Bool) → b ≢ 0xFF → leb enough n ≡ y → Sound (pre n) b (cond y (scan_enter n b (delimiter_of b)) (hunt, some (short_run n b)))
+    by' : (y : Bool) → b ≢ 0xFF → leb enough n ≡ y → Sound (pre n) b (cond y (scan_enter n b (delimiter_of b)) (hunt, Some (short_run n b)))
     by' true other e = sound_enter n b (leb-true enough n e) k other (delimiter_of b) (delimiter_right b)
     by' false other e = record { fine = tt; out = (f, omega (arith, leb-false enough n e), other); kept = append-nil (preambles n ++ (b ∷ [])) }
 
-    by : (y : Bool) → eqb b 0xFF ≡ y → Sound (pre n) b (cond y (pre (suc n), none) (cond (leb enough n) (scan_enter n b (delimiter_of b)) (hunt, some (short_run n b))))
+    by : (y : Bool) → eqb b 0xFF ≡ y → Sound (pre n) b (cond y (pre (suc n), None) (cond (leb enough n) (scan_enter n b (delimiter_of b)) (hunt, Some (short_run n b))))
     by true e = record { fine = omega arith; out = tt; kept = rw (eqb-true b 0xFF e) (preambles-snoc n) }
     by false e = by' (leb enough n) (eqb-false b 0xFF e) refl
 sound (within n p) b f k = sound_within n b f.0 k p f.1 f.2
@@ -244,8 +243,8 @@ record Found (run : List ℕ) : Type 0 where
   cut : Cut run parts left
 
 add : (o : Option Piece) (run : List ℕ) → HoldsOut o → Found run → Found (bytes_out o ++ run)
-add none run h found = found
-add (some p) run h found =
+add None run h found = found
+add (Some p) run h found =
     record {
       parts = p ∷ found.parts;
       left = found.left;

@@ -4,13 +4,11 @@
 use Prim.Native.Nat.{ℕ, suc, ◌≤◌, ◌<◌}
 use mathlib.Core.Path.{◌≡◌}
 use mathlib.Core.Bool.{cond}
-use mathlib.Core.Option.{Option, none, some}
 use mathlib.Core.List.{List, [], ◌∷◌, ◌++◌}
 use lib.ListN.{length}
 use lib.Dec.{eqb, leb}
 use Rattle.types.specs.declared.delimiter.Opening.{Opening}
-use Rattle.types.specs.declared.delimiter.Delimiter.{Delimiter}
-use Rattle.types.specs.declared.delimiter.Delimiter.TheVariants.{Known, Unknown}
+use Rattle.std.specs.Prelude.{Option, Some, None}
 use Rattle.types.specs.Delimiter.{delimiter, delimiter_of}
 use Rattle.types.specs.Address.{head_length}
 use Rattle.line.specs.Layout.{Wire, Fits, preambles, body, check_of}
@@ -44,25 +42,25 @@ abbrev pub scan_data : ℕ → Opening → List ℕ → ℕ → ℕ → List ℕ
 scan_data n o hs c e ds = cond (eqb (length ds) e) (within n (checking (wire o hs c ds))) (within n (loading o hs c e ds))
 
 unfoldable pub scan_within : ℕ → Phase → ℕ → Scan × Option Piece
-scan_within n (addressing o hs) b = (scan_address n o (hs ++ (b ∷ [])), none)
-scan_within n (commanding o hs) b = (within n (counting o hs b), none)
-scan_within n (counting o hs c) b = (scan_data n o hs c b [], none)
-scan_within n (loading o hs c e ds) b = (scan_data n o hs c e (ds ++ (b ∷ [])), none)
-scan_within n (checking w) b = (hunt, some (closed n w b))
+scan_within n (addressing o hs) b = (scan_address n o (hs ++ (b ∷ [])), None)
+scan_within n (commanding o hs) b = (within n (counting o hs b), None)
+scan_within n (counting o hs c) b = (scan_data n o hs c b [], None)
+scan_within n (loading o hs c e ds) b = (scan_data n o hs c e (ds ++ (b ∷ [])), None)
+scan_within n (checking w) b = (hunt, Some (closed n w b))
 
-abbrev pub scan_enter : ℕ → ℕ → Delimiter → Scan × Option Piece
-scan_enter n b (Known o) = (within n (addressing o []), none)
-scan_enter n b Unknown = (hunt, some (bad_delimiter n b))
+abbrev pub scan_enter : ℕ → ℕ → Option Opening → Scan × Option Piece
+scan_enter n b (Some o) = (within n (addressing o []), None)
+scan_enter n b None = (hunt, Some (bad_delimiter n b))
 
 unfoldable pub scan : Scan → ℕ → Scan × Option Piece
-scan hunt b = cond (eqb b 0xFF) (pre 1, none) (hunt, some (noise b))
-scan (pre n) b = cond (eqb b 0xFF) (pre (suc n), none) (cond (leb enough n) (scan_enter n b (delimiter_of b)) (hunt, some (short_run n b)))
+scan hunt b = cond (eqb b 0xFF) (pre 1, None) (hunt, Some (noise b))
+scan (pre n) b = cond (eqb b 0xFF) (pre (suc n), None) (cond (leb enough n) (scan_enter n b (delimiter_of b)) (hunt, Some (short_run n b)))
 scan (within n p) b = scan_within n p b
 
 -- what is told where a piece ends, and where none does
 abbrev pub told : Option Piece → Event
-told none = silence
-told (some p) = verdict p
+told None = silence
+told (Some p) = verdict p
 
 -- the bytes of the piece so far: from the delimiter on, and with the preamble
 abbrev pub opened : Phase → List ℕ

@@ -3,7 +3,7 @@ use Prim.Native.Nat.{ℕ, zero, suc, ◌+◌, ◌≤◌, ◌<◌}
 use native.Mathlib.Omega.{arith}
 use mathlib.Core.Path.{◌≡◌, refl, ◌∙◌}
 use mathlib.Core.Bool.{cond}
-use mathlib.Core.Option.{none}
+use Rattle.std.specs.Prelude.{None}
 use mathlib.Core.List.{List, [], ◌∷◌, ◌++◌, append-nil}
 use lib.ListN.{length, length-append}
 use lib.Seq.{append_snoc}
@@ -39,9 +39,9 @@ use Rattle.line.proofs.Scan.{
 
 pub data Steps : Scan → List ℕ → Scan → Type 0 where
   stay : {s : Scan} → Steps s [] s
-  go : {s s' s'' : Scan} {b : ℕ} {bs : List ℕ} → scan s b ≡ (s', none) → Steps s' bs s'' → Steps s (b ∷ bs) s''
+  go : {s s' s'' : Scan} {b : ℕ} {bs : List ℕ} → scan s b ≡ (s', None) → Steps s' bs s'' → Steps s (b ∷ bs) s''
 
-via : {s s'' : Scan} {b : ℕ} {bs : List ℕ} (s' : Scan) → scan s b ≡ (s', none) → Steps s' bs s'' → Steps s (b ∷ bs) s''
+via : {s s'' : Scan} {b : ℕ} {bs : List ℕ} (s' : Scan) → scan s b ≡ (s', None) → Steps s' bs s'' → Steps s (b ∷ bs) s''
 via s' e q = go e q
 
 steps_append : {s s' s'' : Scan} {bs cs : List ℕ} → Steps s bs s' → Steps s' cs s'' → Steps s (bs ++ cs) s''
@@ -65,7 +65,7 @@ to_preambles (suc j) h = go refl (more_preambles j 1 (suc j) (omega arith))
 
 -- bytes of a known number m: K while some are missing, D with the last
 module _ (n m : ℕ) (K D : List ℕ → Phase)
-    (adds : (b : ℕ) (xs : List ℕ) → scan (within n (K xs)) b ≡ (cond (eqb (length (xs ++ (b ∷ []))) m) (within n (D (xs ++ (b ∷ [])))) (within n (K (xs ++ (b ∷ [])))), none)) where
+    (adds : (b : ℕ) (xs : List ℕ) → scan (within n (K xs)) b ≡ (cond (eqb (length (xs ++ (b ∷ []))) m) (within n (D (xs ++ (b ∷ [])))) (within n (K (xs ++ (b ∷ [])))), None)) where
   collect : (b : ℕ) (xs bs : List ℕ) → length xs + suc (length bs) ≡ m → Steps (within n (K xs)) (b ∷ bs) (within n (D (xs ++ (b ∷ bs))))
   collect b xs [] e =
       let last : length (xs ++ (b ∷ [])) ≡ m = length-append xs (b ∷ []) ∙ e in
@@ -82,7 +82,7 @@ module _ (n m : ℕ) (K D : List ℕ → Phase)
 
 -- from the delimiter on
 module _ (n : ℕ) (many : enough ≤ n) (o : Opening) where
-  opens : scan (pre n) (delimiter o) ≡ (within n (addressing o []), none)
+  opens : scan (pre n) (delimiter o) ≡ (within n (addressing o []), None)
   unfolding scan
   opens = rw (ne_eqb (delimiter o) 0xFF (omega (arith, delimiter_small o)), le-leb enough n many, delimiter_back)
 

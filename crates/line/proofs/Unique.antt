@@ -3,7 +3,7 @@ use Prim.Native.Nat.{ℕ}
 use native.Mathlib.Omega.{arith}
 use mathlib.Core.Path.{◌≡◌, refl, sym, ap, ◌∙◌}
 use mathlib.Core.Logic.{◌≢◌}
-use mathlib.Core.Option.{Option, none, some}
+use Rattle.std.specs.Prelude.{Option, None, Some}
 use mathlib.Core.List.{
   List,
   [],
@@ -47,7 +47,7 @@ use Rattle.line.proofs.Steps.{Steps, stay, go, steps_ends, to_preambles, to_read
 pub record Passes (p : Piece) : Type 0 where
   pub before : Scan
   pub along : Steps hunt (front p) before
-  pub scans : scan before (last p) ≡ (hunt, some p)
+  pub scans : scan before (last p) ≡ (hunt, Some p)
 
 pub passes : (p : Piece) → Holds p → Passes p
 unfolding scan scan_within
@@ -87,15 +87,15 @@ rest_steps (tail {t = t} w) =
 
 -- what the scanner gives, byte by byte
 abbrev nothings : List ℕ → List (Option Piece)
-nothings bs = map (λ (b : ℕ). none) bs
+nothings bs = map (λ (b : ℕ). None) bs
 
 abbrev given : List Piece → List ℕ → List (Option Piece)
 given [] t = nothings t
-given (p ∷ ps) t = nothings (front p) ++ (some p ∷ given ps t)
+given (p ∷ ps) t = nothings (front p) ++ (Some p ∷ given ps t)
 
 steps_says : {s s' : Scan} {bs : List ℕ} → Steps s bs s' → (cs : List ℕ) → says scan s (bs ++ cs) ≡ nothings bs ++ says scan s' cs
 steps_says stay cs = refl
-steps_says (go e q) cs = rw e (ap (λ (os : List (Option Piece)). none ∷ os) (steps_says q cs))
+steps_says (go e q) cs = rw e (ap (λ (os : List (Option Piece)). None ∷ os) (steps_says q cs))
 
 regroup : (p : Piece) (ps : List Piece) (t : List ℕ) → joined (p ∷ ps) ++ t ≡ front p ++ (last p ∷ (joined ps ++ t))
 regroup p ps t = simp append_assoc
@@ -119,7 +119,7 @@ nothings_told (b ∷ bs) os = ap (λ (es : List Event). silence ∷ es) (nothing
 
 given_told : (ps : List Piece) (t : List ℕ) → map told (given ps t) ≡ dictated ps t
 given_told [] t = simp append-nil at (nothings_told t [])
-given_told (p ∷ ps) t = nothings_told (front p) (some p ∷ given ps t) ∙ rw (given_told ps t, append_assoc)
+given_told (p ∷ ps) t = nothings_told (front p) (Some p ∷ given ps t) ∙ rw (given_told ps t, append_assoc)
 
 pub scanned : (ps : List Piece) (t : List ℕ) → AllHold ps → Rest t → map told (says scan hunt (joined ps ++ t)) ≡ dictated ps t
 scanned ps t a r = ap (map told) (says_given ps t a r) ∙ given_told ps t
@@ -127,8 +127,8 @@ scanned ps t a r = ap (map told) (says_given ps t a r) ∙ given_told ps t
 -- the pieces among what is given
 abbrev pieces_in : List (Option Piece) → List Piece
 pieces_in [] = []
-pieces_in (none ∷ os) = pieces_in os
-pieces_in (some p ∷ os) = p ∷ pieces_in os
+pieces_in (None ∷ os) = pieces_in os
+pieces_in (Some p ∷ os) = p ∷ pieces_in os
 
 nothings_pieces : (bs : List ℕ) (os : List (Option Piece)) → pieces_in (nothings bs ++ os) ≡ pieces_in os
 nothings_pieces [] os = refl
@@ -136,7 +136,7 @@ nothings_pieces (b ∷ bs) os = nothings_pieces bs os
 
 given_pieces : (ps : List Piece) (t : List ℕ) → pieces_in (given ps t) ≡ ps
 given_pieces [] t = rw append-nil at (nothings_pieces t [])
-given_pieces (p ∷ ps) t = nothings_pieces (front p) (some p ∷ given ps t) ∙ ap (λ (qs : List Piece). p ∷ qs) (given_pieces ps t)
+given_pieces (p ∷ ps) t = nothings_pieces (front p) (Some p ∷ given ps t) ∙ ap (λ (qs : List Piece). p ∷ qs) (given_pieces ps t)
 
 pieces_given : (ps : List Piece) (t : List ℕ) → AllHold ps → Rest t → pieces_in (says scan hunt (joined ps ++ t)) ≡ ps
 pieces_given ps t a r = ap pieces_in (says_given ps t a r) ∙ given_pieces ps t

@@ -1,5 +1,5 @@
 // What a line of bytes means, and what a decoder holds and answers. Here are the decoder's types and no
-// code but the empty frame and what a head says; specs/ has the definitions, proofs/ the theorems, and the code of a byte is in
+// code but what a head says; specs/ has the definitions, proofs/ the theorems, and the code of a byte is in
 // `framing`.
 #![tactic(auto)]
 
@@ -9,6 +9,6 @@ mod moved;
 mod state;
 
 pub use claim::Claim;
-pub use frame::{Answer, Frame, Heard};
-pub use moved::{Ended, Moved};
+pub use frame::Frame;
+pub use moved::{Completed, Moved};
 pub use state::{Head, PREAMBLE_CAP, ROOM, State};

@@ -10,15 +10,20 @@ use commands::{
 };
 use framing::PayloadVerdict;
 use octets::{encode_u16_be, encode_u32_be, least};
-use types::{Address, AddressRead, ResponseStatus};
+use refusal::Refusal;
+use types::{Address, ResponseStatus};
 
-fn put_address_read(read: AddressRead, out: &mut [u8; OUT_SIZE], at: usize) -> usize {
+fn put_address_read(
+    read: Result<(Address, usize), Refusal>,
+    out: &mut [u8; OUT_SIZE],
+    at: usize,
+) -> usize {
     match read {
-        AddressRead::Read { address, used } => {
+        Ok((address, used)) => {
             let next = put_marked(used, b' ', out, at);
             put_bytes(&address_bytes(address), out, next)
         }
-        AddressRead::Refused(refusal) => put_refusal(refusal, out, at),
+        Err(refusal) => put_refusal(refusal, out, at),
     }
 }
 

@@ -7,16 +7,15 @@ use lib.ListN.{length, get_or, take, drop}
 use lib.Seq.{drop-cons, take-append_seam}
 use Rattle.refusal.specs.Outcome.{done, refused, ends, wrote}
 use Rattle.line.specs.declared.frame.Frame.{Frame}
-use Rattle.line.specs.declared.frame.Answer.{Answer}
-use Rattle.line.specs.declared.frame.Answer.TheVariants.{Silence, Found, Refused}
-use Rattle.line.specs.declared.frame.Heard.{Heard}
+use Rattle.std.specs.Prelude.{Some, None, Ok, Err}
+use Rattle.line.specs.machine.Frames.{Heard}
 use Rattle.line.proofs.Machines.{ends-append}
 use Rattle.framing.specs.Demand.{decoder_hears}
 use Rattle.framing.specs.Feed.{fed}
 use Rattle.framing.specs.declared.decode.Decoder.{Decoder}
 use Rattle.framing.specs.declared.decode.Fed.{Fed}
 use Rattle.device.specs.Device.{answering}
-use Rattle.device.specs.Conversation.{answer_room, answer_bytes, answer_beside, answer_heard, listening, answers_along}
+use Rattle.device.specs.Conversation.{answer_room, answer_bytes, answer_heard, listening, answers_along}
 use Rattle.device.proofs.Room.{answer_short, answer_fits, never_too_long}
 use Rattle.device.proofs.Along.{answers-append}
 use Rattle.streams.specs.declared.Handover.{Handover}
@@ -28,16 +27,9 @@ device_goes = record { after_none = λ d. refl; said_none = λ d. refl; after_ap
 
 -- no byte has a longer answer than a frame
 pub heard_short : (h : Heard) → length (answer_heard h) ≤ answer_room
-heard_short h = by h.answer
-  where
-    by : (a : Answer) → length (answer_beside a h.frame) ≤ answer_room
-    by Silence = omega arith
-    by Found = answer_short h.frame
-    by (Refused r) = omega arith
-
--- what is handed over for a frame that was found
-pub found_answered : (x : Heard) {out : List ℕ} {h : Handover} → x.answer ≡ Found → HandsOver (answer_bytes x.frame) out h → HandsOver (answer_heard x) out h
-found_answered x {out} {h} e s = subst (λ (a : Answer). HandsOver (answer_beside a x.frame) out h) (sym e) s
+heard_short (Ok None) = omega arith
+heard_short (Ok (Some f)) = answer_short f
+heard_short (Err r) = omega arith
 
 -- one byte more
 pub passes_byte : {first d : Decoder} {src : List ℕ} {used : ℕ} {h j : Handover} {out : List ℕ} {f : Fed}

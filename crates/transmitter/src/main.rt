@@ -13,7 +13,8 @@ ghost use Rattle.device.specs.Conversation.{answer_room, answer_bytes, answer_he
 ghost use Rattle.streams.specs.Passing.{read_size, HandsOver, PassesFront, PassesAll};
 
 use device::answer as answer_to;
-use framing::{Answer, Decoder, Frame, Heard};
+use framing::{Decoder, Frame};
+use refusal::Refusal;
 use std::io::Read;
 use streams::{Handover, READ_SIZE, READS};
 use types::consts::MAX_FRAME_LENGTH;
@@ -72,18 +73,17 @@ fn respond(rt: &(impl Print + Eprint), frame: Frame, out: &mut [u8]) -> Handover
 }
 
 // A device says nothing to what is no frame.
-fn turn(rt: &(impl Print + Eprint), heard: Heard, out: &mut [u8]) -> Handover
+fn turn(
+    rt: &(impl Print + Eprint),
+    heard: Result<Option<Frame>, Refusal>,
+    out: &mut [u8],
+) -> Handover
     requires { answer_room ≤ length out.old }
     ensures { HandsOver (answer_heard heard) out.new result }
 {
-    let answer = heard.answer;
-    match answer {
-        Answer::Silence => Handover { asked: 0, took: 0 },
-        Answer::Found => {
-            let frame = heard.frame;
-            respond(rt, frame, out)
-        }
-        Answer::Refused(_) => Handover { asked: 0, took: 0 },
+    match heard {
+        Ok(Some(frame)) => respond(rt, frame, out),
+        Ok(None) | Err(_) => Handover { asked: 0, took: 0 },
     }
 }
 

@@ -10,8 +10,7 @@ use Rattle.octets.specs.Bit.{bit}
 use Rattle.types.specs.declared.delimiter.FrameType.{FrameType}
 use Rattle.types.specs.declared.delimiter.FrameType.TheVariants.{Request, Response, Burst}
 use Rattle.types.specs.declared.delimiter.Opening.{Opening}
-use Rattle.types.specs.declared.delimiter.Delimiter.{Delimiter}
-use Rattle.types.specs.declared.delimiter.Delimiter.TheVariants.{Known, Unknown}
+use Rattle.std.specs.Prelude.{Option, Some, None}
 use Rattle.types.specs.Delimiter.{opening, short_delimiter, delimiter, delimiter_type, opening_at, delimiter_of}
 
 -- a type takes three bits and is never zero
@@ -43,39 +42,39 @@ opening_back o =
 
 -- a byte that is made again of what it says is a delimiter, and another is none
 module _ (b : ℕ) where
-  pub made_again : delimiter (opening_at b) ≡ b → delimiter_of b ≡ Known (opening_at b)
+  pub made_again : delimiter (opening_at b) ≡ b → delimiter_of b ≡ Some (opening_at b)
   unfolding delimiter_of
-  made_again e = ap (λ (y : Bool). cond y (Known (opening_at b)) Unknown) (eq-eqb (delimiter (opening_at b)) b e)
+  made_again e = ap (λ (y : Bool). cond y (Some (opening_at b)) None) (eq-eqb (delimiter (opening_at b)) b e)
 
-  pub made_otherwise : delimiter (opening_at b) ≢ b → delimiter_of b ≡ Unknown
+  pub made_otherwise : delimiter (opening_at b) ≢ b → delimiter_of b ≡ None
   unfolding delimiter_of
-  made_otherwise n = ap (λ (y : Bool). cond y (Known (opening_at b)) Unknown) (ne_eqb (delimiter (opening_at b)) b n)
+  made_otherwise n = ap (λ (y : Bool). cond y (Some (opening_at b)) None) (ne_eqb (delimiter (opening_at b)) b n)
 
 -- what was read of a byte is right
-abbrev pub Right : ℕ → Delimiter → Type 0
-Right b (Known o) = b ≡ delimiter o
-Right b Unknown = (o : Opening) → b ≢ delimiter o
+abbrev pub Right : ℕ → Option Opening → Type 0
+Right b (Some o) = b ≡ delimiter o
+Right b None = (o : Opening) → b ≢ delimiter o
 
 pub delimiter_right : (b : ℕ) → Right b (delimiter_of b)
 unfolding delimiter_of
 delimiter_right b = by (eqb (delimiter (opening_at b)) b) refl
   where
-    by : (y : Bool) → eqb (delimiter (opening_at b)) b ≡ y → Right b (cond y (Known (opening_at b)) Unknown)
+    by : (y : Bool) → eqb (delimiter (opening_at b)) b ≡ y → Right b (cond y (Some (opening_at b)) None)
     by true e = sym (eqb-true (delimiter (opening_at b)) b e)
     by false e = λ o q. eqb-false (delimiter (opening_at b)) b e (ap (λ (x : ℕ). delimiter (opening_at x)) q ∙ ap delimiter (opening_back o) ∙ sym q)
 
-pub delimiter_back : (o : Opening) → delimiter_of (delimiter o) ≡ Known o
-delimiter_back o = made_again (delimiter o) (ap delimiter (opening_back o)) ∙ ap Known (opening_back o)
+pub delimiter_back : (o : Opening) → delimiter_of (delimiter o) ≡ Some o
+delimiter_back o = made_again (delimiter o) (ap delimiter (opening_back o)) ∙ ap Some (opening_back o)
 
-pub delimiter_unknown : (b : ℕ) → ((o : Opening) → b ≢ delimiter o) → delimiter_of b ≡ Unknown
+pub delimiter_unknown : (b : ℕ) → ((o : Opening) → b ≢ delimiter o) → delimiter_of b ≡ None
 delimiter_unknown b not = by (delimiter_of b) (delimiter_right b)
   where
-    by : (d : Delimiter) → Right b d → d ≡ Unknown
-    by (Known o) e = absurd (not o e)
-    by Unknown r = refl
+    by : (d : Option Opening) → Right b d → d ≡ None
+    by (Some o) e = absurd (not o e)
+    by None r = refl
 
 -- a byte that is none of document 01's six is no delimiter
-pub delimiter_none : (b : ℕ) → b ≢ 0x02 → b ≢ 0x82 → b ≢ 0x06 → b ≢ 0x86 → b ≢ 0x01 → b ≢ 0x81 → delimiter_of b ≡ Unknown
+pub delimiter_none : (b : ℕ) → b ≢ 0x02 → b ≢ 0x82 → b ≢ 0x06 → b ≢ 0x86 → b ≢ 0x01 → b ≢ 0x81 → delimiter_of b ≡ None
 delimiter_none b a c d e f g = delimiter_unknown b (λ o. none o.frame_type o.is_long)
   where
     none : (t : FrameType) (long : Bool) → b ≢ delimiter (opening t long)
@@ -88,21 +87,21 @@ delimiter_none b a c d e f g = delimiter_unknown b (λ o. none o.frame_type o.is
 
 -- document 01's six, tried one after the other, are those that are found
 pub six_delimiters : (b : ℕ)
-    → cond (eqb b 0x02) (Known (opening Request false))
-    (cond (eqb b 0x82) (Known (opening Request true))
-    (cond (eqb b 0x06) (Known (opening Response false))
-    (cond (eqb b 0x86) (Known (opening Response true))
-    (cond (eqb b 0x01) (Known (opening Burst false))
-    (cond (eqb b 0x81) (Known (opening Burst true))
-    Unknown)))))
+    → cond (eqb b 0x02) (Some (opening Request false))
+    (cond (eqb b 0x82) (Some (opening Request true))
+    (cond (eqb b 0x06) (Some (opening Response false))
+    (cond (eqb b 0x86) (Some (opening Response true))
+    (cond (eqb b 0x01) (Some (opening Burst false))
+    (cond (eqb b 0x81) (Some (opening Burst true))
+    None)))))
     ≡ delimiter_of b
 six_delimiters b =
     tried Request false _ (λ a. tried Request true _ (λ c. tried Response false _ (λ d. tried Response true _ (λ e. tried Burst false _ (λ f. tried Burst true _ (λ g. sym (delimiter_none b a c d e f g)))))))
   where
-    tried : (t : FrameType) (long : Bool) (rest : Delimiter) → (b ≢ delimiter (opening t long) → rest ≡ delimiter_of b) → cond (eqb b (delimiter (opening t long))) (Known (opening t long)) rest ≡ delimiter_of b
+    tried : (t : FrameType) (long : Bool) (rest : Option Opening) → (b ≢ delimiter (opening t long) → rest ≡ delimiter_of b) → cond (eqb b (delimiter (opening t long))) (Some (opening t long)) rest ≡ delimiter_of b
     tried t long rest otherwise = by (eqb b (delimiter (opening t long))) refl
       where
-        by : (y : Bool) → eqb b (delimiter (opening t long)) ≡ y → cond y (Known (opening t long)) rest ≡ delimiter_of b
+        by : (y : Bool) → eqb b (delimiter (opening t long)) ≡ y → cond y (Some (opening t long)) rest ≡ delimiter_of b
         by true e = sym (ap delimiter_of (eqb-true b (delimiter (opening t long)) e) ∙ delimiter_back (opening t long))
         by false e = otherwise (eqb-false b (delimiter (opening t long)) e)
 

@@ -1,5 +1,6 @@
 -- Document 01, 'Wire layout': what the bytes of an address say, and the bytes that say an address.
-use Rattle.std.specs.Prelude.{ℕ, ◌+◌, ◌%◌, ◌^◌, ◌≤◌, ◌<◌, Bool, true, false, cond, List, [], ◌∷◌, length, get_or, ltb}
+use Rattle.std.specs.Prelude.{ℕ, ◌+◌, ◌%◌, ◌^◌, ◌≤◌, ◌<◌, Bool, true, false, cond, List, [], ◌∷◌, length, get_or, ltb, Result, Ok, Err}
+use Rattle.refusal.specs.declared.Refusal.{Refusal}
 use Rattle.refusal.specs.Table.{number_of, values_of}
 use Rattle.refusal.specs.Outcome.{Outcome, wrote, refuses}
 use Rattle.octets.specs.Digits.{from_digits, digits}
@@ -9,8 +10,6 @@ use Rattle.types.specs.declared.delimiter.Opening.{Opening}
 use Rattle.types.specs.declared.first.MasterRole.{MasterRole}
 use Rattle.types.specs.declared.address.Address.{Address}
 use Rattle.types.specs.declared.address.Address.TheVariants.{Short, Long}
-use Rattle.types.specs.declared.address.AddressRead.{AddressRead}
-use Rattle.types.specs.declared.address.AddressRead.TheVariants.{Read, Refused}
 
 -- bytes of a short and of a long one
 abbrev pub address_length : Bool → ℕ
@@ -45,9 +44,9 @@ pub data AddressReading : Type 0 where
   address_read : Address → ℕ → AddressReading
   address_refused : ℕ → List ℕ → AddressReading
 
-abbrev pub read_of : AddressRead → AddressReading
-read_of (Read address used) = address_read address used
-read_of (Refused r) = address_refused (number_of r) (values_of r)
+abbrev pub read_of : Result (Address × ℕ) Refusal → AddressReading
+read_of (Ok (address, used)) = address_read address used
+read_of (Err r) = address_refused (number_of r) (values_of r)
 
 -- 3 if there are fewer bytes than the address has; bytes past it are ignored
 abbrev pub decoded : Bool → List ℕ → AddressReading

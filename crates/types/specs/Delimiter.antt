@@ -1,11 +1,9 @@
 -- Document 01, 'Wire layout': frame types, and the six delimiters.
-use Rattle.std.specs.Prelude.{ℕ, ◌+◌, ◌%◌, Bool, cond, eqb}
+use Rattle.std.specs.Prelude.{ℕ, ◌+◌, ◌%◌, Bool, cond, eqb, Option, Some, None}
 use Rattle.octets.specs.Bit.{bit}
 use Rattle.types.specs.declared.delimiter.FrameType.{FrameType}
 use Rattle.types.specs.declared.delimiter.FrameType.TheVariants.{Request, Response, Burst}
 use Rattle.types.specs.declared.delimiter.Opening.{Opening}
-use Rattle.types.specs.declared.delimiter.Delimiter.{Delimiter}
-use Rattle.types.specs.declared.delimiter.Delimiter.TheVariants.{Known, Unknown}
 
 -- document 01, 'For the C host', counts the types from 0
 abbrev pub type_number : FrameType → ℕ
@@ -33,5 +31,5 @@ abbrev pub opening_at : ℕ → Opening
 opening_at b = opening (delimiter_type b) (bit 7 b)
 
 -- and it is one if just this byte is made of what it says
-unfoldable pub delimiter_of : ℕ → Delimiter
-delimiter_of b = cond (eqb (delimiter (opening_at b)) b) (Known (opening_at b)) Unknown
+unfoldable pub delimiter_of : ℕ → Option Opening
+delimiter_of b = cond (eqb (delimiter (opening_at b)) b) (Some (opening_at b)) None

@@ -1,7 +1,6 @@
 // Addresses: one byte or five on the line.
-ghost use Rattle.std.specs.Prelude.{◌≡◌, true, ◌≤◌, ◌<◌, length};
+ghost use Rattle.std.specs.Prelude.{◌≡◌, true, ◌<◌};
 ghost use Rattle.refusal.specs.Outcome.{ends, reply_of};
-ghost use Rattle.octets.specs.Put.{put};
 ghost use Rattle.types.specs.Address.{address_length, head_length, short_address, read_address, is_long, read_of, decoded, first_byte, long_bytes, address_written};
 
 use crate::consts::address::{MANUFACTURER_ID_MASK, SHORT_ADDRESS_MASK};
@@ -9,7 +8,7 @@ use crate::delimiter::Opening;
 use crate::first::{
     MasterRole, burst_bit, burst_of, manufacturer_of, master_bit, master_of, polling_of,
 };
-use octets::{decode_u24_be, encode_u24_be};
+use octets::{copy_into, decode_u24_be, encode_u24_be};
 use refusal::Refusal;
 
 pub const SHORT_ADDRESS_LENGTH: usize = 1;
@@ -19,7 +18,7 @@ pub const LONG_ADDRESS_LENGTH: usize = 5;
 // As many bytes as any frame has between its delimiter and its command.
 pub const HEAD_ROOM: usize = LONG_ADDRESS_LENGTH;
 
-#[derive(Clone, Copy)]
+#[derive(Clone, Copy, Debug, PartialEq, Eq)]
 pub enum Address {
     Short {
         master: MasterRole,
@@ -33,13 +32,6 @@ pub enum Address {
         device_type: u8,
         device_id: u32,
     },
-}
-
-// An address and how many bytes it took, or why none was read.
-#[derive(Clone, Copy)]
-pub enum AddressRead {
-    Read { address: Address, used: usize },
-    Refused(Refusal),
 }
 
 pub fn address_length(is_long: bool) -> u8
@@ -62,11 +54,9 @@ pub fn head_length(opening: Opening) -> u8
 fn short_address(first: u8) -> Address
     ensures { result ≡ short_address first }
 {
-    let master = master_of(first);
-    let burst = burst_of(first);
     Address::Short {
-        master,
-        burst,
+        master: master_of(first),
+        burst: burst_of(first),
         poll_address: polling_of(first),
     }
 }
@@ -74,15 +64,13 @@ fn short_address(first: u8) -> Address
 fn long_address(bytes: [u8; LONG_ADDRESS_LENGTH]) -> Address
     ensures { result ≡ read_address true bytes }
 {
-    let first = bytes[0];
-    let master = master_of(first);
-    let burst = burst_of(first);
+    let [first, device_type, high, middle, low] = bytes;
     Address::Long {
-        master,
-        burst,
+        master: master_of(first),
+        burst: burst_of(first),
         manufacturer_id: manufacturer_of(first),
-        device_type: bytes[1],
-        device_id: decode_u24_be(bytes[2], bytes[3], bytes[4]),
+        device_type,
+        device_id: decode_u24_be(high, middle, low),
     }
 }
 
@@ -93,16 +81,11 @@ fn first_byte(master: MasterRole, burst: bool, low: u8) -> u8
     master_bit(master) + burst_bit(burst) + low
 }
 
-fn write_long(first: u8, device_type: u8, device_id: u32, buf: &mut [u8])
-    requires { address_length true ≤ length buf.old }
-    ensures { buf.new ≡ put buf.old 0 (long_bytes first device_type device_id) }
+fn long_bytes(first: u8, device_type: u8, device_id: u32) -> [u8; LONG_ADDRESS_LENGTH]
+    ensures { result ≡ long_bytes first device_type device_id }
 {
-    let number = encode_u24_be(device_id);
-    buf[0] = first;
-    buf[1] = device_type;
-    buf[2] = number[0];
-    buf[3] = number[1];
-    buf[4] = number[2];
+    let [high, middle, low] = encode_u24_be(device_id);
+    [first, device_type, high, middle, low]
 }
 
 impl Address {
@@ -116,25 +99,16 @@ impl Address {
         short_address(bytes[0])
     }
 
-    // Takes as many bytes as the address has; those past them are not looked at.
-    pub fn decode(buf: &[u8], is_long: bool) -> AddressRead
+    // The address and how many bytes it took; those past them are not looked at.
+    pub fn decode(buf: &[u8], is_long: bool) -> Result<(Address, usize), Refusal>
         ensures { read_of result ≡ decoded is_long buf.now }
     {
-        if is_long {
-            if buf.len() < LONG_ADDRESS_LENGTH {
-                return AddressRead::Refused(Refusal::BufferTooShort);
+        match *buf {
+            [b0, b1, b2, b3, b4, ..] if is_long => {
+                Ok((long_address([b0, b1, b2, b3, b4]), LONG_ADDRESS_LENGTH))
             }
-            return AddressRead::Read {
-                address: long_address([buf[0], buf[1], buf[2], buf[3], buf[4]]),
-                used: LONG_ADDRESS_LENGTH,
-            };
-        }
-        if buf.len() < SHORT_ADDRESS_LENGTH {
-            return AddressRead::Refused(Refusal::BufferTooShort);
-        }
-        AddressRead::Read {
-            address: short_address(buf[0]),
-            used: SHORT_ADDRESS_LENGTH,
+            [first, ..] if !is_long => Ok((short_address(first), SHORT_ADDRESS_LENGTH)),
+            _ => Err(Refusal::BufferTooShort),
         }
     }
 
@@ -165,7 +139,7 @@ impl Address {
                     return Err(Refusal::BufferTooSmall);
                 }
                 let first = first_byte(master, burst, manufacturer_id & MANUFACTURER_ID_MASK);
-                write_long(first, device_type, device_id, buf);
+                copy_into(&long_bytes(first, device_type, device_id), buf, 0);
                 Ok(LONG_ADDRESS_LENGTH)
             }
         }
@@ -174,19 +148,6 @@ impl Address {
     pub fn is_long(self) -> bool
         ensures { result ≡ is_long self }
     {
-        match self {
-            Address::Short {
-                master: _,
-                burst: _,
-                poll_address: _,
-            } => false,
-            Address::Long {
-                master: _,
-                burst: _,
-                manufacturer_id: _,
-                device_type: _,
-                device_id: _,
-            } => true,
-        }
+        matches!(self, Address::Long { .. })
     }
 }

@@ -7,7 +7,7 @@ use crate::consts::delimiter::{
     RESPONSE_SHORT,
 };
 
-#[derive(Clone, Copy)]
+#[derive(Clone, Copy, Debug, PartialEq, Eq)]
 pub enum FrameType {
     Request,
     Response,
@@ -28,17 +28,10 @@ impl FrameType {
 }
 
 // What a delimiter says of the frame that it opens.
-#[derive(Clone, Copy)]
+#[derive(Clone, Copy, Debug, PartialEq, Eq)]
 pub struct Opening {
     pub frame_type: FrameType,
     pub is_long: bool,
-}
-
-// A byte read in a delimiter's place.
-#[derive(Clone, Copy)]
-pub enum Delimiter {
-    Known(Opening),
-    Unknown,
 }
 
 fn short_delimiter(frame_type: FrameType) -> u8
@@ -62,36 +55,22 @@ pub fn delimiter_byte(opening: Opening) -> u8
     short
 }
 
-// The definition reads a byte leniently, makes it again and compares. Here the six are tried: so the dump takes
-// three instructions less to a byte.
-pub fn read_delimiter(byte: u8) -> Delimiter
+// What a byte read in a delimiter's place says, if it is one. The definition reads a byte leniently, makes it again and
+// compares. Here the six are tried: so the dump takes three instructions less to a byte.
+pub fn read_delimiter(byte: u8) -> Option<Opening>
     ensures { result ≡ delimiter_of byte }
 {
-    match byte {
-        REQUEST_SHORT => Delimiter::Known(Opening {
-            frame_type: FrameType::Request,
-            is_long: false,
-        }),
-        REQUEST_LONG => Delimiter::Known(Opening {
-            frame_type: FrameType::Request,
-            is_long: true,
-        }),
-        RESPONSE_SHORT => Delimiter::Known(Opening {
-            frame_type: FrameType::Response,
-            is_long: false,
-        }),
-        RESPONSE_LONG => Delimiter::Known(Opening {
-            frame_type: FrameType::Response,
-            is_long: true,
-        }),
-        BURST_SHORT => Delimiter::Known(Opening {
-            frame_type: FrameType::Burst,
-            is_long: false,
-        }),
-        BURST_LONG => Delimiter::Known(Opening {
-            frame_type: FrameType::Burst,
-            is_long: true,
-        }),
-        _ => Delimiter::Unknown,
-    }
+    let (frame_type, is_long) = match byte {
+        REQUEST_SHORT => (FrameType::Request, false),
+        REQUEST_LONG => (FrameType::Request, true),
+        RESPONSE_SHORT => (FrameType::Response, false),
+        RESPONSE_LONG => (FrameType::Response, true),
+        BURST_SHORT => (FrameType::Burst, false),
+        BURST_LONG => (FrameType::Burst, true),
+        _ => return None,
+    };
+    Some(Opening {
+        frame_type,
+        is_long,
+    })
 }

@@ -8,7 +8,7 @@ use crate::consts::address::{
 };
 use octets::has_bit;
 
-#[derive(Clone, Copy)]
+#[derive(Clone, Copy, Debug, PartialEq, Eq)]
 pub enum MasterRole {
     Primary,
     Secondary,

@@ -9,9 +9,8 @@ mod first;
 mod status;
 
 pub use address::{
-    Address, AddressRead, HEAD_ROOM, LONG_ADDRESS_LENGTH, SHORT_ADDRESS_LENGTH, address_length,
-    head_length,
+    Address, HEAD_ROOM, LONG_ADDRESS_LENGTH, SHORT_ADDRESS_LENGTH, address_length, head_length,
 };
-pub use delimiter::{Delimiter, FrameType, Opening, delimiter_byte, read_delimiter};
+pub use delimiter::{FrameType, Opening, delimiter_byte, read_delimiter};
 pub use first::MasterRole;
 pub use status::ResponseStatus;

@@ -4,19 +4,17 @@ use native.Mathlib.Omega.{arith}
 use mathlib.Core.Path.{◌≡◌, sym, ap, ◌∙◌}
 use mathlib.Core.List.{List, []}
 use lib.ListN.{length}
-use borrow.Enum.Refused.{opened}
 use Rattle.octets.specs.Put.{put}
 use Rattle.octets.proofs.Put.{put-nil}
 use Rattle.line.specs.Events.{Event, silence}
 use Rattle.line.specs.declared.state.State.{State}
 use Rattle.line.specs.declared.state.State.TheVariants.{Hunting}
-use Rattle.line.specs.declared.moved.Ended.{Ended}
 use Rattle.line.specs.machine.Feed.{Held, holding, blank, stepped, fresh}
 use Rattle.dump_lines.specs.Text.{line_of}
 use Rattle.line.specs.machine.Feed.{event_of}
 use Rattle.dump_lines.specs.Lines.{totalled, dump, dump_of, next_dump, told}
 use Rattle.dump_lines.specs.declared.Totals.{Totals}
-use Rattle.dump_lines.proofs.Along.{goes_on, is_over}
+use Rattle.dump_lines.proofs.Along.{still_open, is_over, open_silent}
 use Rattle.dump_lines.proofs.turn.Goals as goal
 
 -- the dump and the line at a byte, from what the byte gives the decoder
@@ -27,13 +25,14 @@ module _ (s : State) (bs : List ℕ) (t : Totals) (b : ℕ) {h : Held} {e : Even
   told_is : line_of t.bytes e ≡ told (dump s bs t) b
   told_is = sym (ap (λ (y : Held × Event). line_of t.bytes y.1) gives)
 
-pub returns-in-Nothing : goal.returns-in-Nothing
-returns-in-Nothing c =
+pub returns-then-goes_on : goal.returns-then-goes_on
+returns-then-goes_on c =
     let a = c.args in
     let st = c.step-moved in
-    let is : stepped (holding a.state a.bytes.now) a.byte ≡ (holding st.result.state st.new.bytes, silence) = goes_on a.state a.bytes.now a.byte st.ensures.value st.ensures.bytes_after c.in-Nothing.is in
+    let open_yet = sym c.goes_on.ensures ∙ c.if-goes_on.true in
+    let is : stepped (holding a.state a.bytes.now) a.byte ≡ (holding st.result.state st.new.bytes, silence) = still_open a.state a.bytes.now a.byte st.ensures.value st.ensures.bytes_after open_yet in
     let line = told_is a.state a.bytes.now a.totals a.byte is in
-    let totals : c.totalled-counted.result ≡ totalled a.totals silence = c.totalled-counted.ensures [] ∙ ap (λ (x : Ended). totalled a.totals (event_of x [])) c.in-Nothing.is in
+    let totals : c.totalled-counted.result ≡ totalled a.totals silence = c.totalled-counted.ensures [] ∙ ap (totalled a.totals) (open_silent st.result.ended [] open_yet) in
     record {
       totals_after = ap (dump st.result.state st.new.bytes) totals ∙ next_is a.state a.bytes.now a.totals a.byte is;
       written_value = omega (arith, ap length line);
@@ -46,7 +45,7 @@ returns c =
     let a = c.args in
     let st = c.step-moved in
     let e : Event = event_of st.result.ended st.new.bytes in
-    let is : stepped (holding a.state a.bytes.now) a.byte ≡ (fresh, e) = is_over a.state a.bytes.now a.byte st.ensures.value st.ensures.bytes_after (opened c.in_default.in_default-own.keys2) in
+    let is : stepped (holding a.state a.bytes.now) a.byte ≡ (fresh, e) = is_over a.state a.bytes.now a.byte st.ensures.value st.ensures.bytes_after (sym c.goes_on.ensures ∙ c.if-goes_on.false) in
     let line = told_is a.state a.bytes.now a.totals a.byte is in
     let w = c.write_line-written in
     record {

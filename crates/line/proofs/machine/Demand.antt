@@ -22,7 +22,7 @@ use Rattle.line.specs.machine.Demand.{
   heard_along,
 }
 use Rattle.line.specs.declared.frame.Frame.{Frame}
-use Rattle.line.specs.declared.frame.Heard.{Heard}
+use Rattle.line.specs.machine.Frames.{Heard}
 use Rattle.line.proofs.machine.Image.{real, stepped_real, follows}
 
 pub feeding_demand : (run : List ℕ) → Bytes run → Demand feeding fresh run

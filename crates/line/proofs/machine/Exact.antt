@@ -3,7 +3,7 @@ use Prim.Native.Nat.{ℕ, ◌≤◌, ◌<◌, min}
 use native.Mathlib.Omega.{arith}
 use mathlib.Core.Path.{◌≡◌, refl, sym, ap, ap₂, subst, ◌∙◌}
 use mathlib.Core.Bool.{Bool, true, false}
-use mathlib.Core.Option.{Option, none, some}
+use Rattle.std.specs.Prelude.{Option, None, Some}
 use mathlib.Core.List.{List, [], ◌∷◌, ◌++◌}
 use lib.Dec.{ltb, leb}
 use lib.ListN.{length, take, drop, length-drop, take-append-drop}
@@ -24,7 +24,7 @@ use Rattle.line.proofs.Exists.{fine_ends, held_ends, held_bytes}
 use Rattle.line.proofs.Bytes.{bytes-append, bytes_left, bytes_right}
 use Rattle.line.proofs.Scan.{addressing, commanding, counting, loading, checking, Scan, hunt, pre, within, wire, scan, told, held, Fine}
 use Rattle.line.specs.machine.Room.{data_room, decoder_room}
-use Rattle.line.specs.machine.Frames.{padded, answer_of}
+use Rattle.line.specs.machine.Frames.{padded, heard_of}
 use Rattle.line.specs.machine.Step.{head_of, preamble_cap, opening_in}
 use Rattle.line.specs.machine.Reachable.{claim_of, all_zero, reachable_at}
 use Rattle.line.specs.machine.Feed.{Held, holding, fresh, reachable, feeding}
@@ -95,10 +95,10 @@ scanned_back d v r = by d.state d.bytes v.state v.bytes v.whole r
     by Hunting bs z k n q = record { scanner = hunt; fine = tt; is = ap (holding Hunting) (blank_array ∙ arrayed Hunting bs q (omega arith)) }
     by (Preamble m) bs z k n q =
         let p = possible (Preamble m) bs q in
-        let some : 0 < m = ltb-true 0 m (and_first (ltb 0 m) (leb m preamble_cap) p) in
+        let counted : 0 < m = ltb-true 0 m (and_first (ltb 0 m) (leb m preamble_cap) p) in
         let few : m ≤ preamble_cap = leb-true m preamble_cap (and_second (ltb 0 m) (leb m preamble_cap) p) in
         let same : min m preamble_cap ≡ m = omega arith in
-        record { scanner = pre m; fine = some; is = ap₂ (λ (i : ℕ) (xs : List ℕ). holding (Preamble i) xs) same (blank_array ∙ arrayed (Preamble m) bs q (omega arith)) }
+        record { scanner = pre m; fine = counted; is = ap₂ (λ (i : ℕ) (xs : List ℕ). holding (Preamble i) xs) same (blank_array ∙ arrayed (Preamble m) bs q (omega arith)) }
     by (Address h k) bs z small n q =
         let s : State = Address h k in
         let hs : List ℕ = take k bs in
@@ -186,18 +186,18 @@ unreached_eight d b v never = by (reachable d) refl
     by true e = absurd (never (reachable_reached d v e))
     by false e = rw e
 
-told_not_eight : (o : Option Piece) → answer_of (told o) ≡ answer_of (refusal 8 []) → ⊥
-told_not_eight none e = let z : ◌≡◌ {A = ℕ} 0 1 = cc in omega arith
-told_not_eight (some (noise b)) e = let z : ◌≡◌ {A = ℕ} 0 1 = cc in omega arith
-told_not_eight (some (short_run n b)) e = let z : ◌≡◌ {A = ℕ} 0 1 = cc in omega arith
-told_not_eight (some (bad_delimiter n b)) e = let z : ◌≡◌ {A = ℕ} 0 1 = cc in omega arith
-told_not_eight (some (frame n w)) e = let z : ◌≡◌ {A = ℕ} 0 1 = cc in omega arith
-told_not_eight (some (bad_check n w c)) e = let z : ◌≡◌ {A = ℕ} 0 1 = cc in omega arith
+told_not_eight : (o : Option Piece) → heard_of (told o) ≡ heard_of (refusal 8 []) → ⊥
+told_not_eight None e = let z : ◌≡◌ {A = ℕ} 0 1 = cc in omega arith
+told_not_eight (Some (noise b)) e = let z : ◌≡◌ {A = ℕ} 0 1 = cc in omega arith
+told_not_eight (Some (short_run n b)) e = let z : ◌≡◌ {A = ℕ} 0 1 = cc in omega arith
+told_not_eight (Some (bad_delimiter n b)) e = let z : ◌≡◌ {A = ℕ} 0 1 = cc in omega arith
+told_not_eight (Some (frame n w)) e = let z : ◌≡◌ {A = ℕ} 0 1 = cc in omega arith
+told_not_eight (Some (bad_check n w c)) e = let z : ◌≡◌ {A = ℕ} 0 1 = cc in omega arith
 
 -- and never for what a run leads to
-pub reached_no_eight : (d : Held) (b : ℕ) → b < 256 → Reached hears fresh d → (hears d b).1.answer ≡ answer_of (refusal 8 []) → ⊥
+pub reached_no_eight : (d : Held) (b : ℕ) → b < 256 → Reached hears fresh d → (hears d b).1 ≡ heard_of (refusal 8 []) → ⊥
 reached_no_eight d b h r e =
     let s : Scan = ends_in scan hunt r.run in
     let is : real s ≡ d = sym (ends_scanned r.run r.small) ∙ r.leads in
     let said : (feeding d b).1 ≡ told (scan s b).1 = ap (λ (c : Held). (feeding c b).1) (sym is) ∙ ap (λ (x : Held × Event). x.1) (follows s b (fine_ends hunt r.run tt r.small) h) in
-    told_not_eight (scan s b).1 (ap answer_of (sym said) ∙ e)
+    told_not_eight (scan s b).1 (ap heard_of (sym said) ∙ e)

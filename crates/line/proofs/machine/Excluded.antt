@@ -5,6 +5,7 @@ use native.Mathlib.Omega.{arith}
 use mathlib.Core.Path.{◌≡◌, refl, sym, ap, ap₂, ◌∙◌}
 use mathlib.Core.List.{List, [], ◌∷◌, ◌++◌, map, head-eq_of_cons-eq}
 use lib.ListN.{length}
+use Rattle.std.specs.Prelude.{Err}
 use Rattle.types.specs.Delimiter.{opening_at, delimiter_of}
 use Rattle.line.specs.Layout.{Wire, most_data, Fits, preambles}
 use Rattle.line.specs.Pieces.{Piece, noise, frame, Bytes, nothing, Cut}
@@ -13,7 +14,7 @@ use Rattle.line.specs.Runs.{says}
 use Rattle.line.proofs.Bytes.{bytes_given}
 use Rattle.line.proofs.Scan.{wire}
 use Rattle.line.specs.machine.Step.{preamble_cap}
-use Rattle.line.specs.machine.Frames.{frame_of, heard_of}
+use Rattle.line.specs.machine.Frames.{frame_of, Heard, heard_of}
 use Rattle.line.specs.machine.Reachable.{reachable_at}
 use Rattle.line.specs.machine.Feed.{blank, fresh, stepped, feeding}
 use Rattle.line.specs.machine.Demand.{hears, frame_heard, frames_heard}
@@ -31,10 +32,7 @@ use Rattle.line.specs.machine.Excluded.{
   check_before_four,
   refused_check,
 }
-use Rattle.line.specs.declared.frame.Answer.{Answer}
-use Rattle.line.specs.declared.frame.Answer.TheVariants.{Silence, Refused}
 use Rattle.line.specs.declared.frame.Frame.{Frame}
-use Rattle.line.specs.declared.frame.Heard.{Heard}
 
 -- a request of the runs, as it stands on the line
 abbrev request_wire : ℕ → List ℕ → Wire
@@ -56,7 +54,7 @@ two_frames_cut =
 
 silence_no_frames : (hs : List Heard) → EachAnswer IsSilence hs → frames_heard hs ≡ []
 silence_no_frames [] e = refl
-silence_no_frames (h ∷ hs) e = ap₂ (λ (a : Answer) (fs : List Frame). frame_heard a h.frame ++ fs) e.0 (silence_no_frames hs e.1)
+silence_no_frames (h ∷ hs) e = ap₂ (λ (a : Heard) (fs : List Frame). frame_heard a ++ fs) e.0 (silence_no_frames hs e.1)
 
 module _ {D : Type 0} (hearing : D → ℕ → D × Heard) (new : D) (meets : MeetsDemand hearing new) where
   -- what is found along a run with this cut
@@ -73,7 +71,7 @@ module _ {D : Type 0} (hearing : D → ℕ → D × Heard) (new : D) (meets : Me
       let is = a.only (noise 0x00 ∷ []) [] (record { pieces = ((λ e. omega arith), tt); rest = nothing; whole = refl }) in
       let said : says hearing new run ≡ heard_of silence ∷ [] = a.answers ∙ ap₂ (λ (ps : List Piece) (t : List ℕ). map heard_of (dictated ps t)) is.0 is.1 in
       let r = (refuses run small).0 in
-      let both : Silence ≡ Refused r.0 = sym (ap (λ (h : Heard). h.answer) (head-eq_of_cons-eq said)) ∙ r.1 in
+      let both : heard_of silence ≡ Err r.0 = sym (head-eq_of_cons-eq said) ∙ r.1 in
       let z : ◌≡◌ {A = ℕ} 0 1 = cc in
       omega arith
 

@@ -4,7 +4,6 @@ use Prim.Native.Nat.{ℕ, suc, ◌+◌, ◌-◌, ◌≤◌, ◌<◌, min}
 use native.Mathlib.Omega.{arith}
 use mathlib.Core.Path.{◌≡◌, refl, sym, ap, ◌∙◌}
 use mathlib.Core.Bool.{Bool, true, false, cond, ◌&&◌}
-use mathlib.Core.Option.{Option, none, some}
 use mathlib.Core.List.{List, [], ◌∷◌, ◌++◌, append_assoc}
 use lib.Bits.{bit_xor, xor_zero_r}
 use lib.Dec.{eqb, ltb, leb}
@@ -14,8 +13,7 @@ use borrow.Author.Tests.{eqb-true, eqb-false, eq-eqb, ne_eqb, ltb-true, ltb-fals
 use Rattle.octets.specs.Check.{check, check_from}
 use Rattle.octets.proofs.Check.{check_first, check-append, check-snoc, check_zeros}
 use Rattle.types.specs.declared.delimiter.Opening.{Opening}
-use Rattle.types.specs.declared.delimiter.Delimiter.{Delimiter}
-use Rattle.types.specs.declared.delimiter.Delimiter.TheVariants.{Known, Unknown}
+use Rattle.std.specs.Prelude.{Option, Some, None}
 use Rattle.types.specs.Delimiter.{delimiter, delimiter_of}
 use Rattle.types.specs.Address.{head_length, head_room}
 use Rattle.types.proofs.Delimiters.{Right, delimiter_right}
@@ -254,34 +252,34 @@ wire_back w f =
     let short : length w.heading ≤ head_room = omega (arith, f.heading_fits, head_length_le w.opening) in
     rw (sym f.heading_fits, take_array w.heading w.payload short, take_back_array w.heading w.payload short)
 
-stepped_check : (n : ℕ) (w : Wire) (b : ℕ) → Fits w → stepped (real (within n (checking w))) b ≡ (fresh, told (some (closed n w b)))
+stepped_check : (n : ℕ) (w : Wire) (b : ℕ) → Fits w → stepped (real (within n (checking w))) b ≡ (fresh, told (Some (closed n w b)))
 unfolding stepped
 stepped_check n w b f = by (eqb b (check_of w)) refl
   where
-    by : (y : Bool) → eqb b (check_of w) ≡ y → stepped (real (within n (checking w))) b ≡ (fresh, told (some (cond y (frame n w) (bad_check n w b))))
+    by : (y : Bool) → eqb b (check_of w) ≡ y → stepped (real (within n (checking w))) b ≡ (fresh, told (Some (cond y (frame n w) (bad_check n w b))))
     by true e = rw (e, wire_back w f)
     by false e = rw e
 
-stepped_delimiter : (n b : ℕ) (d : Delimiter) → Right b d → settled (delimited b d) blank ≡ image (scan_enter n b d)
-stepped_delimiter n b (Known o) e = rw (blank_array, check_first (delimiter o) [], sym e)
-stepped_delimiter n b Unknown e = refl
+stepped_delimiter : (n b : ℕ) (d : Option Opening) → Right b d → settled (delimited b d) blank ≡ image (scan_enter n b d)
+stepped_delimiter n b (Some o) e = rw (blank_array, check_first (delimiter o) [], sym e)
+stepped_delimiter n b None e = refl
 
 stepped_preamble : (n b : ℕ) → stepped (real (pre n)) b ≡ image (scan (pre n) b)
 unfolding stepped scan
 stepped_preamble n b = by (eqb b 0xFF) refl
   where
     -- the count that the byte leaves is held to the scanner's, whichever it is
-    saturates : (y : Bool) → ltb (min n preamble_cap) preamble_cap ≡ y → eqb b 0xFF ≡ true → stepped (real (pre n)) b ≡ image (pre (suc n), none)
+    saturates : (y : Bool) → ltb (min n preamble_cap) preamble_cap ≡ y → eqb b 0xFF ≡ true → stepped (real (pre n)) b ≡ image (pre (suc n), None)
     saturates true e more = rw (more, e) (ap (λ (k : ℕ). (holding (Preamble k) blank, silence)) (omega (arith, ltb-true (min n preamble_cap) preamble_cap e)))
     saturates false e more = rw (more, e) (ap (λ (k : ℕ). (holding (Preamble k) blank, silence)) (omega (arith, ltb-false (min n preamble_cap) preamble_cap e)))
 
     by' : (y : Bool) → leb enough n ≡ y → eqb b 0xFF ≡ false
-        → stepped (real (pre n)) b ≡ image (cond y (scan_enter n b (delimiter_of b)) (hunt, some (short_run n b)))
+        → stepped (real (pre n)) b ≡ image (cond y (scan_enter n b (delimiter_of b)) (hunt, Some (short_run n b)))
     by' true e other = rw (other, le-ltb (min n preamble_cap) enough (omega (arith, leb-true enough n e))) (stepped_delimiter n b (delimiter_of b) (delimiter_right b))
     by' false e other = rw (other, lt-ltb (min n preamble_cap) enough (omega (arith, leb-false enough n e)))
 
     by : (y : Bool) → eqb b 0xFF ≡ y
-        → stepped (real (pre n)) b ≡ image (cond y (pre (suc n), none) (cond (leb enough n) (scan_enter n b (delimiter_of b)) (hunt, some (short_run n b))))
+        → stepped (real (pre n)) b ≡ image (cond y (pre (suc n), None) (cond (leb enough n) (scan_enter n b (delimiter_of b)) (hunt, Some (short_run n b))))
     by true e = saturates (ltb (min n preamble_cap) preamble_cap) refl e
     by false e = by' (leb enough n) refl e
 
@@ -289,7 +287,7 @@ stepped_hunt : (b : ℕ) → stepped fresh b ≡ image (scan hunt b)
 unfolding stepped scan
 stepped_hunt b = by (eqb b 0xFF) refl
   where
-    by : (y : Bool) → eqb b 0xFF ≡ y → stepped fresh b ≡ image (cond y (pre 1, none) (hunt, some (noise b)))
+    by : (y : Bool) → eqb b 0xFF ≡ y → stepped fresh b ≡ image (cond y (pre 1, None) (hunt, Some (noise b)))
     by true e = rw e
     by false e = rw e
 

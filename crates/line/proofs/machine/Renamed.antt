@@ -14,7 +14,7 @@ use Rattle.line.specs.machine.Demand.{
   resets,
   heard_along,
 }
-use Rattle.line.specs.declared.frame.Heard.{Heard}
+use Rattle.line.specs.machine.Frames.{Heard}
 
 module _ {S T : Type 0} (hearing : S → ℕ → S × Heard) (other : T → ℕ → T × Heard) (name : S → T)
     (same : (s : S) (b : ℕ) → other (name s) b ≡ (name (hearing s b).0, (hearing s b).1)) (new : S) where

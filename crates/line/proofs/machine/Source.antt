@@ -6,7 +6,6 @@ use native.Mathlib.Omega.{arith}
 use native.Mathlib.Numerals.{add-one}
 use mathlib.Core.Path.{◌≡◌, refl, sym, ap, ◌∙◌}
 use mathlib.Core.Bool.{Bool, true, false, cond, ◌||◌}
-use mathlib.Core.Option.{Option, none, some}
 use mathlib.Core.List.{List, [], ◌∷◌, ◌++◌, map}
 use lib.Bits.{bit_xor}
 use lib.Dec.{eqb, ltb, leb}
@@ -18,8 +17,7 @@ use Rattle.octets.proofs.Check.{check_first, check-snoc}
 use Rattle.refusal.specs.declared.Refusal.TheVariants.{InvalidDelimiter}
 use Rattle.types.specs.declared.delimiter.Opening.{Opening}
 use Rattle.types.specs.declared.delimiter.FrameType.TheVariants.{Request, Response, Burst}
-use Rattle.types.specs.declared.delimiter.Delimiter.{Delimiter}
-use Rattle.types.specs.declared.delimiter.Delimiter.TheVariants.{Known, Unknown}
+use Rattle.std.specs.Prelude.{Option, Some, None}
 use Rattle.types.specs.Delimiter.{opening, delimiter, delimiter_of}
 use Rattle.types.specs.Address.{address_length, head_length}
 use Rattle.types.proofs.Delimiters.{Right, delimiter_right, six_delimiters}
@@ -65,7 +63,7 @@ source_room = address_length true
 abbrev in_frame : SourceState → Opening → List ℕ → ℕ → ℕ → List ℕ → SourceDecoder
 in_frame s o hs c x ds = record {
   state = s;
-  frame_type = some o.frame_type;
+  frame_type = Some o.frame_type;
   is_long = o.is_long;
   addr_buf = padded source_room hs;
   addr_len = head_length o;
@@ -95,7 +93,7 @@ source_address_lem : (n : ℕ) (o : Opening) (hs : List ℕ) (b : ℕ) → lengt
     → source_feed (source_of (within n (addressing o hs))) b ≡ source_image (scan (within n (addressing o hs)) b)
 unfolding source_feed scan scan_within
 source_address_lem n o hs b z =
-    one_more (λ (s : Scan). source_feed (source_of (within n (addressing o hs))) b ≡ source_image (s, none)) hs b (head_length o)
+    one_more (λ (s : Scan). source_feed (source_of (within n (addressing o hs))) b ≡ source_image (s, None)) hs b (head_length o)
     (within n (commanding o (hs ++ (b ∷ [])))) (within n (addressing o (hs ++ (b ∷ [])))) z
     (λ full. rw (room, fits, le-leb (head_length o) (length hs + 1) (omega (arith, longer, full)), padded-set source_room hs b short, sums, longer))
     (λ more. rw (room, fits, lt-leb (head_length o) (length hs + 1) (omega (arith, longer, more)), le-leb (length hs + 1) (head_length o) (omega (arith, longer, more)), padded-set source_room hs b short, sums, longer))
@@ -129,7 +127,7 @@ source_count n o hs c b = by (eqb 0 b) refl
     sums = sums_behind (delimiter o) hs (c ∷ []) b
 
     by : (y : Bool) → eqb 0 b ≡ y
-        → source_feed (source_of (within n (counting o hs c))) b ≡ source_image (cond y (within n (checking (wire o hs c []))) (within n (loadingPhase o hs c b [])), none)
+        → source_feed (source_of (within n (counting o hs c))) b ≡ source_image (cond y (within n (checking (wire o hs c []))) (within n (loadingPhase o hs c b [])), None)
     by true e = let z : b ≡ 0 = sym (eqb-true 0 b e) in rw (sums, z)
     by false e =
         let whole : b - 0 ≡ b = omega arith in
@@ -139,7 +137,7 @@ source_data : (n : ℕ) (o : Opening) (hs : List ℕ) (c m : ℕ) (ds : List ℕ
     → source_feed (source_of (within n (loadingPhase o hs c m ds))) b ≡ source_image (scan (within n (loadingPhase o hs c m ds)) b)
 unfolding source_feed scan scan_within
 source_data n o hs c m ds b z small =
-    one_more (λ (s : Scan). source_feed (source_of (within n (loadingPhase o hs c m ds))) b ≡ source_image (s, none)) ds b m
+    one_more (λ (s : Scan). source_feed (source_of (within n (loadingPhase o hs c m ds))) b ≡ source_image (s, None)) ds b m
     (within n (checking (wire o hs c (ds ++ (b ∷ []))))) (within n (loadingPhase o hs c m (ds ++ (b ∷ [])))) z
     (λ full. rw (some_left, room, sums, eq-eqb (m - length ds - 1) 0 (omega (arith, longer, full)), full))
     (λ short. rw (some_left, room, sums, ne_eqb (m - length ds - 1) 0 (omega (arith, longer, short)), left))
@@ -159,11 +157,11 @@ source_data n o hs c m ds b z small =
     left : m - length ds - 1 ≡ m - length (ds ++ (b ∷ []))
     left = omega (arith, longer)
 
-source_check : (n : ℕ) (w : Wire) (b : ℕ) → Fits w → Bytes w.heading → source_feed (source_of (within n (checking w))) b ≡ source_image (hunt, some (closed n w b))
+source_check : (n : ℕ) (w : Wire) (b : ℕ) → Fits w → Bytes w.heading → source_feed (source_of (within n (checking w))) b ≡ source_image (hunt, Some (closed n w b))
 unfolding source_feed
 source_check n w b f k = by (eqb b (check_of w)) refl
   where
-    by : (y : Bool) → eqb b (check_of w) ≡ y → source_feed (source_of (within n (checking w))) b ≡ source_image (hunt, some (cond y (frame n w) (bad_check n w b)))
+    by : (y : Bool) → eqb b (check_of w) ≡ y → source_feed (source_of (within n (checking w))) b ≡ source_image (hunt, Some (cond y (frame n w) (bad_check n w b)))
     by true e =
         let o = w.opening in
         let short : head_length o ≤ source_room = head_length_le o in
@@ -174,15 +172,15 @@ source_check n w b f k = by (eqb b (check_of w)) refl
     by false e = rw e
 
 -- the Rust tries the six delimiters one after the other
-abbrev source_delimited : SourceDecoder → ℕ → Delimiter → SourceRun
-source_delimited d b (Known o) = begin o.frame_type o.is_long b d
-source_delimited d b Unknown = comes_to source_new (err (InvalidDelimiter b))
+abbrev source_delimited : SourceDecoder → ℕ → Option Opening → SourceRun
+source_delimited d b (Some o) = begin o.frame_type o.is_long b d
+source_delimited d b None = comes_to source_new (err (InvalidDelimiter b))
 
 module _ (d : SourceDecoder) (b : ℕ) where
-  tries : (o : Opening) (rest : Delimiter) (otherwise : SourceRun) → source_delimited d b rest ≡ otherwise
-      → source_delimited d b (cond (eqb b (delimiter o)) (Known o) rest) ≡ cond (eqb b (delimiter o)) (source_delimited d b (Known o)) otherwise
+  tries : (o : Opening) (rest : Option Opening) (otherwise : SourceRun) → source_delimited d b rest ≡ otherwise
+      → source_delimited d b (cond (eqb b (delimiter o)) (Some o) rest) ≡ cond (eqb b (delimiter o)) (source_delimited d b (Some o)) otherwise
   tries o rest otherwise e =
-      elim (eqb b (delimiter o)) as (λ y. source_delimited d b (cond y (Known o) rest) ≡ cond y (source_delimited d b (Known o)) otherwise) [ true ↦ refl | false ↦ e ]
+      elim (eqb b (delimiter o)) as (λ y. source_delimited d b (cond y (Some o) rest) ≡ cond y (source_delimited d b (Some o)) otherwise) [ true ↦ refl | false ↦ e ]
 
   delimiter_same : source_delimited d b (delimiter_of b) ≡ process_delimiter d b
   delimiter_same =
@@ -194,17 +192,17 @@ lengths_same : (long : Bool) → cond long 5 1 ≡ address_length long
 lengths_same false = refl
 lengths_same true = refl
 
-source_delimiter : (n b : ℕ) (d : Delimiter) → Right b d → source_delimited source_new b d ≡ source_image (scan_enter n b d)
-source_delimiter n b (Known o) e =
+source_delimiter : (n b : ℕ) (d : Option Opening) → Right b d → source_delimited source_new b d ≡ source_image (scan_enter n b d)
+source_delimiter n b (Some o) e =
     let whole : head_length o - 0 ≡ head_length o = omega arith in
     rw (lengths_same o.is_long, check_first (delimiter o) [], sym e, whole)
-source_delimiter n b Unknown e = refl
+source_delimiter n b None e = refl
 
 source_other : (n b : ℕ) → eqb b 0xFF ≡ false → source_feed (source_of (pre n)) b ≡ source_image (scan (pre n) b)
 unfolding source_feed scan
 source_other n b e = rw e (by (leb enough n))
   where
-    by : (y : Bool) → cond y (process_delimiter source_new b) (comes_to source_new ok_none) ≡ source_image (cond y (scan_enter n b (delimiter_of b)) (hunt, some (short_run n b)))
+    by : (y : Bool) → cond y (process_delimiter source_new b) (comes_to source_new ok_none) ≡ source_image (cond y (scan_enter n b (delimiter_of b)) (hunt, Some (short_run n b)))
     by true = sym (delimiter_same source_new b) ∙ source_delimiter n b (delimiter_of b) (delimiter_right b)
     by false = refl
 
@@ -219,7 +217,7 @@ source_count_out n b e h = rw (e, le-ltb (n + 1) 256 (omega arith))
 
 source_hunt : (b : ℕ) → source_feed source_new b ≡ source_image (scan hunt b)
 unfolding source_feed scan
-source_hunt b = elim (eqb b 0xFF) as (λ y. cond y (comes_to (goto (preamble 1) source_new) ok_none) (comes_to source_new ok_none) ≡ source_image (cond y (pre 1, none) (hunt, some (noise b)))) [ true ↦ refl | false ↦ refl ]
+source_hunt b = elim (eqb b 0xFF) as (λ y. cond y (comes_to (goto (preamble 1) source_new) ok_none) (comes_to source_new ok_none) ≡ source_image (cond y (pre 1, None) (hunt, Some (noise b)))) [ true ↦ refl | false ↦ refl ]
 
 -- at every byte outside a preamble the Rust comes to what the scanner gives
 source_within : (n : ℕ) (p : Phase) (b : ℕ) → Fine (within n p) → source_feed (source_of (within n p)) b ≡ source_image (scan (within n p) b)
@@ -238,35 +236,35 @@ preamble_of (within n p) = n
 
 -- behind a preamble its number stays, until the piece ends
 abbrev pub Stays : ℕ → Scan × Option Piece → Type 0
-Stays n (hunt, none) = ⊥
-Stays n (pre m, none) = ⊥
-Stays n (within m p, none) = m ≡ n
-Stays n (s, some p) = s ≡ hunt
+Stays n (hunt, None) = ⊥
+Stays n (pre m, None) = ⊥
+Stays n (within m p, None) = m ≡ n
+Stays n (s, Some p) = s ≡ hunt
 
 pub stays_within : (n : ℕ) (p : Phase) (b : ℕ) → Stays n (scan_within n p b)
 unfolding scan_within
 stays_within n (addressing o hs) b =
-    elim (eqb (length (hs ++ (b ∷ []))) (head_length o)) as (λ y. Stays n (cond y (within n (commanding o (hs ++ (b ∷ [])))) (within n (addressing o (hs ++ (b ∷ [])))), none)) [ true ↦ refl | false ↦ refl ]
+    elim (eqb (length (hs ++ (b ∷ []))) (head_length o)) as (λ y. Stays n (cond y (within n (commanding o (hs ++ (b ∷ [])))) (within n (addressing o (hs ++ (b ∷ [])))), None)) [ true ↦ refl | false ↦ refl ]
 stays_within n (commanding o hs) b = refl
-stays_within n (counting o hs c) b = elim (eqb 0 b) as (λ y. Stays n (cond y (within n (checking (wire o hs c []))) (within n (loadingPhase o hs c b [])), none)) [ true ↦ refl | false ↦ refl ]
+stays_within n (counting o hs c) b = elim (eqb 0 b) as (λ y. Stays n (cond y (within n (checking (wire o hs c []))) (within n (loadingPhase o hs c b [])), None)) [ true ↦ refl | false ↦ refl ]
 stays_within n (loadingPhase o hs c m ds) b =
-    elim (eqb (length (ds ++ (b ∷ []))) m) as (λ y. Stays n (cond y (within n (checking (wire o hs c (ds ++ (b ∷ []))))) (within n (loadingPhase o hs c m (ds ++ (b ∷ [])))), none)) [ true ↦ refl | false ↦ refl ]
+    elim (eqb (length (ds ++ (b ∷ []))) m) as (λ y. Stays n (cond y (within n (checking (wire o hs c (ds ++ (b ∷ []))))) (within n (loadingPhase o hs c m (ds ++ (b ∷ [])))), None)) [ true ↦ refl | false ↦ refl ]
 stays_within n (checking w) b = refl
 
 pub stays_behind : (n b : ℕ) → eqb b 0xFF ≡ false → Stays n (scan (pre n) b)
 unfolding scan
 stays_behind n b e = rw e (by (leb enough n) (delimiter_of b))
   where
-    by : (y : Bool) (d : Delimiter) → Stays n (cond y (scan_enter n b d) (hunt, some (short_run n b)))
-    by true (Known o) = refl
-    by true Unknown = refl
+    by : (y : Bool) (d : Option Opening) → Stays n (cond y (scan_enter n b d) (hunt, Some (short_run n b)))
+    by true (Some o) = refl
+    by true None = refl
     by false d = refl
 
 no_more : (n : ℕ) (r : Scan × Option Piece) → Stays n r → preamble_of r.0 ≤ n
-no_more n (hunt, none) k = absurd k
-no_more n (pre m, none) k = absurd k
-no_more n (within m p, none) k = omega arith
-no_more n (s, some p) k = rw k (omega arith)
+no_more n (hunt, None) k = absurd k
+no_more n (pre m, None) k = absurd k
+no_more n (within m p, None) k = omega arith
+no_more n (s, Some p) k = rw k (omega arith)
 
 -- below 256 the Rust comes to what the scanner gives
 source_goes : (s : Scan) (b : ℕ) → Fine s → preamble_of (scan s b).0 < 256 → source_feed (source_of s) b ≡ source_image (scan s b)
@@ -287,7 +285,7 @@ pub crosses : (s : Scan) (b : ℕ) → preamble_of s < 256 → 256 ≤ preamble_
 unfolding scan
 crosses hunt b h k = absurd (few (eqb b 0xFF) k)
   where
-    few : (y : Bool) → 256 ≤ preamble_of (cond {A = Scan × Option Piece} y (pre 1, none) (hunt, some (noise b))).0 → ⊥
+    few : (y : Bool) → 256 ≤ preamble_of (cond {A = Scan × Option Piece} y (pre 1, None) (hunt, Some (noise b))).0 → ⊥
     few true j = omega arith
     few false j = omega arith
 crosses (pre n) b h k = by (eqb b 0xFF) refl

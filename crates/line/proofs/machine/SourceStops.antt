@@ -4,7 +4,7 @@ use native.Mathlib.Omega.{arith}
 use mathlib.Core.Path.{◌≡◌, refl, sym, ap, subst, ◌∙◌}
 use mathlib.Core.Logic.{◌↔◌, ◌⊎◌, inl, inr}
 use mathlib.Core.Bool.{Bool, true, false, cond, ◌||◌, or-true, or-false, true≢false}
-use mathlib.Core.Option.{Option, none, some}
+use Rattle.std.specs.Prelude.{Option, None, Some}
 use mathlib.Core.List.{List, [], ◌∷◌, ◌++◌, map, append-nil, append_assoc}
 use lib.Dec.{eqb, leb}
 use lib.ListN.{replicate}
@@ -71,23 +71,23 @@ counted_ff m b bs (pre n) e a =
     (rw (one, eqb-true b 0xFF e) (ap (λ (cs : List ℕ). 0xFF ∷ cs) a.0), omega (arith, a.1))
 counted_ff m b bs (within n p) e a = rw e (omega arith)
 
-counted_other : (m b : ℕ) (bs : List ℕ) (s : Scan) → eqb b 0xFF ≡ false → Stays m (s, none) → CountedFrom m (b ∷ bs) s
+counted_other : (m b : ℕ) (bs : List ℕ) (s : Scan) → eqb b 0xFF ≡ false → Stays m (s, None) → CountedFrom m (b ∷ bs) s
 counted_other m b bs hunt e k = absurd k
 counted_other m b bs (pre n) e k = absurd k
 counted_other m b bs (within n p) e k = rw e (omega arith)
 
 -- one step
-step_ff : (m b : ℕ) (s : Scan) → eqb b 0xFF ≡ true → scan (pre m) b ≡ (s, none) → s ≡ pre (suc m)
+step_ff : (m b : ℕ) (s : Scan) → eqb b 0xFF ≡ true → scan (pre m) b ≡ (s, None) → s ≡ pre (suc m)
 unfolding scan
-step_ff m b s z e = let same : ◌≡◌ {A = Scan × Option Piece} (pre (suc m), none) (s, none) = rw z at e in ap (λ (r : Scan × Option Piece). r.0) (sym same)
+step_ff m b s z e = let same : ◌≡◌ {A = Scan × Option Piece} (pre (suc m), None) (s, None) = rw z at e in ap (λ (r : Scan × Option Piece). r.0) (sym same)
 
-step_within : (m : ℕ) (s : Scan) (b : ℕ) (s' : Scan) → Stays m (s, none) → scan s b ≡ (s', none) → Stays m (s', none)
+step_within : (m : ℕ) (s : Scan) (b : ℕ) (s' : Scan) → Stays m (s, None) → scan s b ≡ (s', None) → Stays m (s', None)
 unfolding scan
 step_within m hunt b s' k e = absurd k
 step_within m (pre n) b s' k e = absurd k
 step_within m (within n p) b s' k e = subst (Stays m) e (subst (λ (i : ℕ). Stays i (scan_within n p b)) k (stays_within n p b))
 
-steps_within : (bs : List ℕ) (m : ℕ) (s : Scan) {s'' : Scan} → Stays m (s, none) → Steps s bs s'' → Stays m (s'', none)
+steps_within : (bs : List ℕ) (m : ℕ) (s : Scan) {s'' : Scan} → Stays m (s, None) → Steps s bs s'' → Stays m (s'', None)
 steps_within [] m s k stay = k
 steps_within (b ∷ bs) m s k (go {s' = s'} e q) = steps_within bs m s' (step_within m s b s' k e) q
 
@@ -99,7 +99,7 @@ steps_pre (b ∷ bs) m {s''} (go {s' = s'} e q) = by (eqb b 0xFF) refl (steps_pr
     by true z ih = counted_ff m b bs s'' z (ih (subst (λ (s : Scan). Steps s bs s'') (step_ff m b s' z e) q))
     by false z ih = counted_other m b bs s'' z (steps_within bs m s' (subst (Stays m) e (stays_behind m b z)) q)
 
-piece_given : (p : Piece) → ◌≡◌ {A = Option Piece} (some p) none → ⊥
+piece_given : (p : Piece) → ◌≡◌ {A = Option Piece} (Some p) None → ⊥
 piece_given p e = let z : ◌≡◌ {A = ℕ} 0 1 = cc in omega arith
 
 steps_hunt : (b : ℕ) (bs : List ℕ) {s'' : Scan} → Steps hunt (b ∷ bs) s'' → CountedFrom 0 (b ∷ bs) s''
@@ -108,10 +108,10 @@ steps_hunt b bs {s''} (go {s' = s'} e q) = by (eqb b 0xFF) refl
   where
     by : (y : Bool) → eqb b 0xFF ≡ y → CountedFrom 0 (b ∷ bs) s''
     by true z =
-        let same : ◌≡◌ {A = Scan × Option Piece} (pre 1, none) (s', none) = rw z at e in
+        let same : ◌≡◌ {A = Scan × Option Piece} (pre 1, None) (s', None) = rw z at e in
         let begun : s' ≡ pre 1 = ap (λ (r : Scan × Option Piece). r.0) (sym same) in
         counted_ff 0 b bs s'' z (steps_pre bs 1 (subst (λ (s : Scan). Steps s bs s'') begun q))
-    by false z = let other : ◌≡◌ {A = Scan × Option Piece} (hunt, some (noise b)) (s', none) = rw z at e in absurd (piece_given (noise b) (ap (λ (r : Scan × Option Piece). r.1) other))
+    by false z = let other : ◌≡◌ {A = Scan × Option Piece} (hunt, Some (noise b)) (s', None) = rw z at e in absurd (piece_given (noise b) (ap (λ (r : Scan × Option Piece). r.1) other))
 
 -- so it has counted the FF in front
 steps_count : (bs : List ℕ) {s : Scan} → Steps hunt bs s → preamble_of s ≡ leading_ff bs
@@ -124,12 +124,12 @@ steps_all [] n stay e = let z : 0 ≡ suc n = ap preamble_of e in absurd (omega 
 steps_all (b ∷ bs) n q e = let whole : suc n - 0 ≡ suc n = omega arith in (subst (CountedFrom 0 (b ∷ bs)) e (steps_hunt b bs q)).0 ∙ ap preambles whole
 
 -- the count does not fall until a piece ends
-stays_count : (m : ℕ) (s : Scan) → Stays m (s, none) → preamble_of s ≡ m
+stays_count : (m : ℕ) (s : Scan) → Stays m (s, None) → preamble_of s ≡ m
 stays_count m hunt k = absurd k
 stays_count m (pre n) k = absurd k
 stays_count m (within n p) k = k
 
-step_grows : (s : Scan) (b : ℕ) (s' : Scan) → scan s b ≡ (s', none) → preamble_of s ≤ preamble_of s'
+step_grows : (s : Scan) (b : ℕ) (s' : Scan) → scan s b ≡ (s', None) → preamble_of s ≤ preamble_of s'
 step_grows hunt b s' e = omega arith
 step_grows (pre n) b s' e = by (eqb b 0xFF) refl
   where

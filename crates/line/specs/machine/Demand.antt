@@ -1,12 +1,12 @@
 -- The third demand, as callers of a decoder see it: what is heard along a run of bytes, and which decoders a run leads to. Decoders come
 -- in more than one form, so each statement is of what hears bytes one by one, in any form, from a new one on.
-use Rattle.std.specs.Prelude.{ℕ, ◌<◌, ◌≡◌, List, [], ◌∷◌, map, length}
+use Rattle.std.specs.Prelude.{ℕ, ◌<◌, ◌≡◌, List, [], ◌∷◌, map, length, Some, None, Ok, Err}
 use Rattle.refusal.specs.declared.Refusal.{Refusal}
 use Rattle.line.specs.Pieces.{Piece, Bytes, joined, Cut}
 use Rattle.line.specs.Events.{verdict, dictated, gather, frames_in, refusals_in}
 use Rattle.line.specs.Runs.{says, ends_in}
 use Rattle.line.specs.machine.Room.{decoder_room}
-use Rattle.line.specs.machine.Frames.{frame_of, heard_of}
+use Rattle.line.specs.machine.Frames.{frame_of, Heard, heard_of}
 use Rattle.line.specs.machine.Feed.{Held, feeding}
 use Rattle.line.specs.declared.state.Head.{Head}
 use Rattle.line.specs.declared.state.State.{State}
@@ -20,30 +20,26 @@ use Rattle.line.specs.declared.state.State.TheVariants.{
   Checksum,
 }
 use Rattle.line.specs.declared.frame.Frame.{Frame}
-use Rattle.line.specs.declared.frame.Answer.{Answer}
-use Rattle.line.specs.declared.frame.Answer.TheVariants.{Silence, Found, Refused}
-use Rattle.line.specs.declared.frame.Heard.{Heard}
 
 -- one byte fed: the decoder for the next, and what is heard
 abbrev pub hears : Held → ℕ → Held × Heard
 hears d b = ((feeding d b).0, heard_of (feeding d b).1)
 
 -- the frames among what was heard, and the refusals
-abbrev pub frame_heard : Answer → Frame → List Frame
-frame_heard Silence f = []
-frame_heard Found f = f ∷ []
-frame_heard (Refused r) f = []
+abbrev pub frame_heard : Heard → List Frame
+frame_heard (Ok None) = []
+frame_heard (Ok (Some f)) = f ∷ []
+frame_heard (Err r) = []
 
-abbrev pub refusal_heard : Answer → List Refusal
-refusal_heard Silence = []
-refusal_heard Found = []
-refusal_heard (Refused r) = r ∷ []
+abbrev pub refusal_heard : Heard → List Refusal
+refusal_heard (Ok f) = []
+refusal_heard (Err r) = r ∷ []
 
 abbrev pub frames_heard : List Heard → List Frame
-frames_heard hs = gather (λ (h : Heard). frame_heard h.answer h.frame) hs
+frames_heard hs = gather frame_heard hs
 
 abbrev pub refusals_heard : List Heard → List Refusal
-refusals_heard hs = gather (λ (h : Heard). refusal_heard h.answer) hs
+refusals_heard hs = gather refusal_heard hs
 
 -- a run has one cut; a new decoder that is fed the run answers at each byte what the cut dictates; its frames in order are the frames
 -- of the cut, its refusals those of the cut; and after whole pieces it is new again

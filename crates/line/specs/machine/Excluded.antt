@@ -1,6 +1,6 @@
 -- Document 01, 'Promises' and 'Readings that look right': wrong decoders that the third demand excludes, and what is heard along runs that tell
 -- them from a right one.
-use Rattle.std.specs.Prelude.{ℕ, ◌+◌, ◌≤◌, ◌≡◌, false, List, [], ◌∷◌, ◌++◌, length, replicate}
+use Rattle.std.specs.Prelude.{ℕ, ◌+◌, ◌≤◌, ◌≡◌, false, List, [], ◌∷◌, ◌++◌, length, replicate, Some, None, Ok, Err}
 use Rattle.refusal.specs.declared.Refusal.{Refusal}
 use Rattle.refusal.specs.declared.Refusal.TheVariants.{ChecksumMismatch}
 use Rattle.types.specs.declared.delimiter.FrameType.TheVariants.{Request}
@@ -11,23 +11,20 @@ use Rattle.line.specs.Pieces.{Bytes}
 use Rattle.line.specs.Runs.{says}
 use Rattle.line.specs.machine.Room.{data_room}
 use Rattle.line.specs.machine.Step.{preamble_cap}
-use Rattle.line.specs.machine.Frames.{padded, no_frame}
+use Rattle.line.specs.machine.Frames.{padded, Heard}
 use Rattle.line.specs.machine.Demand.{frames_heard, Answered}
-use Rattle.line.specs.declared.frame.Answer.{Answer}
-use Rattle.line.specs.declared.frame.Answer.TheVariants.{Silence, Found, Refused}
-use Rattle.line.specs.declared.frame.Heard.{Heard}
 
 -- no frame and no refusal, and a refusal whatever it is
-abbrev pub IsSilence : Answer → Type 0
-IsSilence answer = answer ≡ Silence
+abbrev pub IsSilence : Heard → Type 0
+IsSilence heard = heard ≡ Ok None
 
-abbrev pub IsRefusal : Answer → Type 0
-IsRefusal answer = (r : Refusal) × (answer ≡ Refused r)
+abbrev pub IsRefusal : Heard → Type 0
+IsRefusal heard = (r : Refusal) × (heard ≡ Err r)
 
 -- what holds of the answer at each byte
-abbrev pub EachAnswer : (Answer → Type 0) → List Heard → Type 0
+abbrev pub EachAnswer : (Heard → Type 0) → List Heard → Type 0
 EachAnswer Is [] = Unit {0}
-EachAnswer Is (h ∷ hs) = Is h.answer × EachAnswer Is hs
+EachAnswer Is (h ∷ hs) = Is h × EachAnswer Is hs
 
 module _ {D : Type 0} (hearing : D → ℕ → D × Heard) (new : D) where
   -- the third demand: every run of bytes is answered as its cut dictates
@@ -46,20 +43,18 @@ module _ {D : Type 0} (hearing : D → ℕ → D × Heard) (new : D) where
 
 -- silence at so many bytes
 abbrev pub silences : ℕ → List Heard
-silences n = replicate n (record { answer = Silence; frame = no_frame })
+silences n = replicate n (Ok None)
 
 -- a request of the primary master to polling address 0
 abbrev pub request_heard : ℕ → List ℕ → Heard
-request_heard command payload = record {
-  answer = Found;
-  frame = record {
-    frame_type = Request;
-    address = Short Primary false 0;
-    command = command;
-    «data» = padded data_room payload;
-    length = length payload;
-  };
-}
+request_heard command payload =
+    Ok (Some (record {
+      frame_type = Request;
+      address = Short Primary false 0;
+      command = command;
+      «data» = padded data_room payload;
+      length = length payload;
+    }))
 
 -- such a request of command 0 without data, and two with data
 abbrev pub bare_request : List ℕ
@@ -83,4 +78,4 @@ abbrev pub check_before_four : List ℕ
 check_before_four = preambles 5 ++ (0x02 ∷ 0x80 ∷ 0x00 ∷ 0x00 ∷ 0xFF ∷ (preambles 4 ++ bare_request))
 
 abbrev pub refused_check : Heard
-refused_check = record { answer = Refused (ChecksumMismatch 0x82 0xFF); frame = no_frame }
+refused_check = Err (ChecksumMismatch 0x82 0xFF)

@@ -1,8 +1,6 @@
 -- A frame as callers see it, and what a caller is answered at a byte.
-use Rattle.std.specs.Prelude.{ℕ, ◌-◌, false, List, [], ◌++◌, length, take, drop, replicate}
-use Rattle.types.specs.declared.delimiter.FrameType.TheVariants.{Request}
-use Rattle.types.specs.declared.first.MasterRole.TheVariants.{Secondary}
-use Rattle.types.specs.declared.address.Address.TheVariants.{Short}
+use Rattle.std.specs.Prelude.{ℕ, ◌-◌, List, ◌++◌, length, take, drop, replicate, Option, Some, None, Result, Ok, Err}
+use Rattle.refusal.specs.declared.Refusal.{Refusal}
 use Rattle.types.specs.Address.{head_length, head_room, read_address}
 use Rattle.line.specs.machine.Step.{opening_in}
 use Rattle.line.specs.Layout.{Wire, address_of}
@@ -10,9 +8,6 @@ use Rattle.line.specs.Events.{Event, silence, found, rejected}
 use Rattle.line.specs.machine.Room.{data_room}
 use Rattle.line.specs.declared.state.Head.{Head}
 use Rattle.line.specs.declared.frame.Frame.{Frame}
-use Rattle.line.specs.declared.frame.Heard.{Heard}
-use Rattle.line.specs.declared.frame.Answer.{Answer}
-use Rattle.line.specs.declared.frame.Answer.TheVariants.{Silence, Found, Refused}
 
 -- zeros fill an array of n behind what it holds
 abbrev pub padded : ℕ → List ℕ → List ℕ
@@ -28,16 +23,6 @@ frame_of w = record {
   length = length w.payload;
 }
 
--- what stands where no frame was found
-abbrev pub no_frame : Frame
-no_frame = record {
-  frame_type = Request;
-  address = Short Secondary false 0;
-  command = 0;
-  «data» = padded data_room [];
-  length = 0;
-}
-
 -- the frame that the bytes beside a state hold
 abbrev pub wire_at : Head → ℕ → ℕ → List ℕ → Wire
 wire_at h command n bs = record {
@@ -47,16 +32,11 @@ wire_at h command n bs = record {
   payload = take n (drop head_room bs);
 }
 
--- what a caller is answered at an event: a kind of answer, and a frame beside it
-abbrev pub answer_of : Event → Answer
-answer_of silence = Silence
-answer_of (found w) = Found
-answer_of (rejected r) = Refused r
-
-abbrev pub frame_beside : Event → Frame
-frame_beside silence = no_frame
-frame_beside (found w) = frame_of w
-frame_beside (rejected r) = no_frame
+-- what a caller is answered at a byte: silence, a frame, or a refusal
+abbrev pub Heard : Type 0
+Heard = Result (Option Frame) Refusal
 
 abbrev pub heard_of : Event → Heard
-heard_of e = record { answer = answer_of e; frame = frame_beside e }
+heard_of silence = Ok None
+heard_of (found w) = Ok (Some (frame_of w))
+heard_of (rejected r) = Err r

@@ -1,8 +1,7 @@
 -- decode.rs written down, state by state and line by line, with the address reader of types.rs: to be held beside the Rust. What stops a
 -- debug build stops here: a sum of u8 past 255 (the preamble count, at the 256th FF), a difference below 0, an index or a part outside
 -- an array.
-use Rattle.std.specs.Prelude.{ℕ, suc, ◌+◌, ◌-◌, ◌*◌, ◌^◌, ◌<◌, ◌≡◌, ◌⊎◌, Bool, true, false, cond, ◌||◌, List, [], ◌∷◌, ◌++◌, eqb, ltb, leb, length, get_or, take, replicate}
-use Rattle.std.proofs.Math.Option.{Option, none, some}
+use Rattle.std.specs.Prelude.{ℕ, suc, ◌-◌, ◌*◌, ◌^◌, ◌<◌, ◌≡◌, ◌⊎◌, Bool, true, false, cond, ◌||◌, List, [], ◌∷◌, ◌++◌, eqb, ltb, leb, length, get_or, take, replicate, Option, Some, None, Ok, Err}
 use Rattle.std.specs.Int.Bits.{bit_and, bit_or, bit_xor}
 use Rattle.refusal.specs.declared.Refusal.{Refusal}
 use Rattle.refusal.specs.declared.Refusal.TheVariants.{BufferTooShort, InvalidDelimiter, ChecksumMismatch}
@@ -17,11 +16,9 @@ use Rattle.types.specs.declared.first.MasterRole.TheVariants.{Primary, Secondary
 use Rattle.types.specs.declared.address.Address.{Address}
 use Rattle.types.specs.declared.address.Address.TheVariants.{Short, Long}
 use Rattle.line.specs.Pieces.{Piece, bytes_of, Cut}
+use Rattle.line.specs.machine.Frames.{Heard}
 use Rattle.line.specs.machine.Demand.{Call, feeds, resets}
 use Rattle.line.specs.declared.frame.Frame.{Frame}
-use Rattle.line.specs.declared.frame.Answer.{Answer}
-use Rattle.line.specs.declared.frame.Answer.TheVariants.{Silence, Found, Refused}
-use Rattle.line.specs.declared.frame.Heard.{Heard}
 
 -- `enum State`
 pub data SourceState : Type 0 where
@@ -98,7 +95,7 @@ reading_of (err_address e) = address_refused (number_of e) (values_of e)
 abbrev pub source_new : SourceDecoder
 source_new = record {
   state = hunting;
-  frame_type = none;
+  frame_type = None;
   is_long = false;
   addr_buf = replicate 5 0;
   addr_len = 0;
@@ -155,7 +152,7 @@ begin t long b d =
     let n : ℕ = cond long 5 1 in
     comes_to (record {
       state = address n;
-      frame_type = some t;
+      frame_type = Some t;
       is_long = long;
       addr_buf = d.addr_buf;
       addr_len = n;
@@ -177,8 +174,8 @@ process_delimiter d b =
 
 -- `unwrap_or(FrameType::Request)`
 abbrev pub unwrapped : Option FrameType → FrameType
-unwrapped none = Request
-unwrapped (some t) = t
+unwrapped None = Request
+unwrapped (Some t) = t
 
 abbrev pub finished : SourceDecoder → AddressResult → SourceRun
 finished d (ok_address a used) =
@@ -237,13 +234,10 @@ traced d (resets ∷ cs) = traced source_new cs
 abbrev pub raw_of : Frame → RawFrame
 raw_of f = record { frame_type = f.frame_type; address = f.address; command = f.command; payload = take f.length f.«data» }
 
-abbrev pub result_by : Answer → Frame → Result
-result_by Silence f = ok_none
-result_by Found f = ok_some (raw_of f)
-result_by (Refused r) f = err r
-
 abbrev pub result_of : Heard → Result
-result_of h = result_by h.answer h.frame
+result_of (Ok None) = ok_none
+result_of (Ok (Some f)) = ok_some (raw_of f)
+result_of (Err r) = err r
 
 -- what is fed is a byte
 abbrev pub SmallCalls : List Call → Type 0

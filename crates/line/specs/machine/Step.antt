@@ -1,10 +1,9 @@
 -- What a byte does to a decoder: to its state, and to the address and data bytes beside it.
-use Rattle.std.specs.Prelude.{ℕ, ◌+◌, cond, List, [], ◌∷◌, set, eqb, ltb}
+use Rattle.std.specs.Prelude.{ℕ, ◌+◌, cond, List, [], ◌∷◌, set, eqb, ltb, Option, Some, None, Result, Ok, Err}
 use Rattle.std.specs.Int.Bits.{bit_xor}
+use Rattle.refusal.specs.declared.Refusal.{Refusal}
 use Rattle.refusal.specs.Table.{refusal_of}
 use Rattle.types.specs.declared.delimiter.Opening.{Opening}
-use Rattle.types.specs.declared.delimiter.Delimiter.{Delimiter}
-use Rattle.types.specs.declared.delimiter.Delimiter.TheVariants.{Known, Unknown}
 use Rattle.types.specs.Delimiter.{opening, delimiter_of}
 use Rattle.types.specs.Address.{head_length, head_room}
 use Rattle.line.specs.Pieces.{enough}
@@ -20,15 +19,25 @@ use Rattle.line.specs.declared.state.State.TheVariants.{
   Checksum,
 }
 use Rattle.line.specs.declared.moved.Moved.{Moved}
-use Rattle.line.specs.declared.moved.Ended.{Ended}
-use Rattle.line.specs.declared.moved.Ended.TheVariants.{Nothing, Frame, Refused}
+use Rattle.line.specs.declared.moved.Completed.{Completed}
+
+-- what a byte ended: nothing, a frame, or a piece that is refused
+abbrev pub Ended : Type 0
+Ended = Result (Option Completed) Refusal
 
 -- the piece goes on, or is over
 abbrev pub going : State → Moved
-going s = record { state = s; ended = Nothing }
+going s = record { state = s; ended = Ok None }
 
 abbrev pub over : Ended → Moved
 over e = record { state = Hunting; ended = e }
+
+-- a frame whose check was right, and a piece that is refused
+abbrev pub completed : Head → ℕ → ℕ → Completed
+completed h c n = record { head = h; command = c; length = n }
+
+abbrev pub ends_frame : Head → ℕ → ℕ → Ended
+ends_frame h c n = Ok (Some (completed h c n))
 
 -- the first FF of a preamble, or noise
 abbrev pub hunted : ℕ → Moved
@@ -42,9 +51,9 @@ abbrev pub opening_in : Head → Opening
 opening_in h = opening h.frame_type h.is_long
 
 -- the check begins with the delimiter
-abbrev pub delimited : ℕ → Delimiter → Moved
-delimited b (Known o) = going (Address (head_of o b) 0)
-delimited b Unknown = over (Refused (refusal_of 4 (b ∷ [])))
+abbrev pub delimited : ℕ → Option Opening → Moved
+delimited b (Some o) = going (Address (head_of o b) 0)
+delimited b None = over (Err (refusal_of 4 (b ∷ [])))
 
 -- the preamble count saturates: so many FF are counted and no more
 abbrev pub preamble_cap : ℕ
@@ -76,7 +85,7 @@ loaded h c e n b = going (cond (ltb (n + 1) e) (Data (mixed h b) c e (n + 1)) (C
 
 -- the check byte ends the piece
 abbrev pub checked : Head → ℕ → ℕ → ℕ → Moved
-checked h c e b = over (cond (eqb b h.check) (Frame h c e) (Refused (refusal_of 5 (h.check ∷ b ∷ []))))
+checked h c e b = over (cond (eqb b h.check) (ends_frame h c e) (Err (refusal_of 5 (h.check ∷ b ∷ []))))
 
 -- the state behind a byte, and what ended with it
 abbrev pub moved_at : State → ℕ → Moved

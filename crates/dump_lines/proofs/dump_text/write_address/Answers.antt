@@ -10,8 +10,7 @@ use borrow.Author.Tests.{le-ltb}
 use Rattle.refusal.specs.declared.Refusal.{Refusal}
 use Rattle.refusal.specs.Outcome.{Reply, ends, wrote}
 use Rattle.types.specs.declared.address.Address.{Address}
-use Rattle.types.specs.declared.address.AddressRead.{AddressRead}
-use Rattle.types.specs.declared.address.AddressRead.TheVariants.{Read, Refused}
+use Rattle.std.specs.Prelude.{Result, Ok, Err}
 use Rattle.types.specs.Address.{address_length, is_long, read_address, address_bytes, address_written, address_read, address_refused, read_of, decoded}
 use Rattle.types.proofs.Addresses.{address_length_le, address_fits, length-address, read_taken, long_read}
 use Rattle.line.specs.machine.Room.{decoder_room}
@@ -27,34 +26,34 @@ written_front a {r} {after} e =
     ap (take n) g ∙ take_at (address_bytes a) (drop (length (address_bytes a)) (replicate (address_length true) 0)) n (length-address a)
 
 -- the bytes are enough, so that the address is read, from as many of them as it has
-module _ (long : Bool) (bs : List ℕ) (size : length bs ≡ decoder_room) (r : AddressRead) (e : read_of r ≡ decoded long bs) where
+module _ (long : Bool) (bs : List ℕ) (size : length bs ≡ decoder_room) (r : Result (Address × ℕ) Refusal) (e : read_of r ≡ decoded long bs) where
   enough : read_of r ≡ address_read (read_address long bs) (address_length long)
   enough =
       e ∙ ap (λ (t : Bool). cond t (address_refused 3 []) (address_read (read_address long bs) (address_length long))) (le-ltb (length bs) (address_length long) (omega (arith, address_length_le long)))
 
-  not_refused : (x : Refusal) → r ≡ Refused x → ⊥
+  not_refused : (x : Refusal) → r ≡ Err x → ⊥
   not_refused x f =
-      let g : read_of (Refused x) ≡ address_read (read_address long bs) (address_length long) = sym (ap read_of f) ∙ enough in
+      let g : read_of (Err x) ≡ address_read (read_address long bs) (address_length long) = sym (ap read_of f) ∙ enough in
       let z : ◌≡◌ {A = ℕ} 0 1 = cc in
       omega arith
 
-  was_read : (a : Address) (used : ℕ) → r ≡ Read a used → a ≡ read_address long (take (address_length long) bs)
+  was_read : (a : Address) (used : ℕ) → r ≡ Ok (a, used) → a ≡ read_address long (take (address_length long) bs)
   was_read a used f =
       let g : address_read a used ≡ address_read (read_address long bs) (address_length long) = sym (ap read_of f) ∙ enough in
       let h : a ≡ read_address long bs = cc in
       h ∙ read_taken long bs
 
-  was_used : (a : Address) (used : ℕ) → r ≡ Read a used → used ≡ address_length long
+  was_used : (a : Address) (used : ℕ) → r ≡ Ok (a, used) → used ≡ address_length long
   was_used a used f = let g : address_read a used ≡ address_read (read_address long bs) (address_length long) = sym (ap read_of f) ∙ enough in cc
 
 pub returns-clause-writes : goal.returns-clause-writes
 returns-clause-writes c =
     let a = c.args in
     let d = c.decode in
-    let address : c.in-Read.address ≡ read_address a.long (take (address_length a.long) a.bytes.now) = was_read a.long a.bytes.now (omega arith) d.result d.ensures c.in-Read.address c.in-Read.used c.in-Read.is in
-    let used : c.in-Read.used ≡ address_length a.long = was_used a.long a.bytes.now (omega arith) d.result d.ensures c.in-Read.address c.in-Read.used c.in-Read.is in
-    let count : c.in-Read.used - 0 ≡ address_length (is_long c.in-Read.address) =
+    let address : c.in-Ok.address ≡ read_address a.long (take (address_length a.long) a.bytes.now) = was_read a.long a.bytes.now (omega arith) d.result d.ensures c.in-Ok.address c.in-Ok.used c.in-Ok.is in
+    let used : c.in-Ok.used ≡ address_length a.long = was_used a.long a.bytes.now (omega arith) d.result d.ensures c.in-Ok.address c.in-Ok.used c.in-Ok.is in
+    let count : c.in-Ok.used - 0 ≡ address_length (is_long c.in-Ok.address) =
     omega (arith, ap (λ (x : Address). address_length (is_long x)) address, ap address_length (long_read a.long (take (address_length a.long) a.bytes.now))) in
     let last = c.encode.new.buf in
-    let text : hex (take (c.in-Read.used - 0) last) ≡ hex (address_bytes (read_address a.long (take (address_length a.long) a.bytes.now))) =
-    ap hex (ap (λ (k : ℕ). take k last) count ∙ written_front c.in-Read.address c.encode.ensures ∙ ap address_bytes address) in reworded (ap (λ (xs : List ℕ). xs ++ (a.mark ∷ [])) text) c.write_hex.ensures.writes
+    let text : hex (take (c.in-Ok.used - 0) last) ≡ hex (address_bytes (read_address a.long (take (address_length a.long) a.bytes.now))) =
+    ap hex (ap (λ (k : ℕ). take k last) count ∙ written_front c.in-Ok.address c.encode.ensures ∙ ap address_bytes address) in reworded (ap (λ (xs : List ℕ). xs ++ (a.mark ∷ [])) text) c.write_hex.ensures.writes

@@ -11,7 +11,7 @@ use Rattle.types.specs.Address.{address_length, head_room, is_long, address_byte
 use Rattle.types.proofs.Addresses.{address_length_le, length-address, address_taken, address_first, long_read}
 use Rattle.line.specs.machine.Step.{opening_in}
 use Rattle.line.specs.Layout.{address_of}
-use Rattle.line.specs.machine.Frames.{wire_at}
+use Rattle.line.specs.machine.Feed.{wire_in}
 use Rattle.host.specs.Record.{frame_record}
 use Rattle.host.proofs.records.write_frame.Goals as goal
 
@@ -34,18 +34,18 @@ returns c =
     let bs = a.bytes.now in
     let l = a.room.now in
     let behind = drop head_room bs in
-    let wire = wire_at a.head a.command a.count bs in
-    let all : head_room + a.count - head_room ≡ a.count = omega arith in
-    let counted : length (take a.count behind) ≡ a.count = length-take-le a.count behind (omega (arith, length-drop head_room bs, c.requires.0)) in
-    let o = opening_in a.head in
+    let wire = wire_in a.completed bs in
+    let all : head_room + a.completed.length - head_room ≡ a.completed.length = omega arith in
+    let counted : length (take a.completed.length behind) ≡ a.completed.length = length-take-le a.completed.length behind (omega (arith, length-drop head_room bs, c.requires.0)) in
+    let o = opening_in a.completed.head in
     let address : c.from_bytes-address.result ≡ read_address o.is_long (address_of wire) = c.from_bytes-address.ensures ∙ address_taken o.is_long bs ∙ ap (read_address o.is_long) (sym (address_first o bs)) in
     let long : is_long c.from_bytes-address.result ≡ o.is_long = ap is_long address ∙ long_read o.is_long (address_of wire) in
     let first = c.frame_first.result in
     let ab = address_bytes c.from_bytes-address.result in
-    let ds = take a.count behind in
+    let ds = take a.completed.length behind in
     let next = 1 + c.address_length.result in
     let written : next ≡ 1 + length ab = omega (arith, c.address_length.ensures, length-address c.from_bytes-address.result, ap address_length long) in
-    let fits : next + 2 + length ds ≤ length l = omega (arith, counted, c.address_length.ensures, address_length_le a.head.is_long, c.requires.1) in
-    let laid = record_made first a.command a.count ab ds l next c.write_address.ensures written c.copy_into.ensures (ap (λ (k : ℕ). take k behind) all) fits in
-    let same : first ∷ (ab ++ (a.command ∷ a.count ∷ ds)) ≡ frame_record wire = rw (c.frame_first.ensures, c.opening.ensures, address, counted) in
-    (omega (arith, ap length same, length-append ab (a.command ∷ a.count ∷ ds), counted, written), laid ∙ ap (put l 0) same)
+    let fits : next + 2 + length ds ≤ length l = omega (arith, counted, c.address_length.ensures, address_length_le a.completed.head.is_long, c.requires.1) in
+    let laid = record_made first a.completed.command a.completed.length ab ds l next c.write_address.ensures written c.copy_into.ensures (ap (λ (k : ℕ). take k behind) all) fits in
+    let same : first ∷ (ab ++ (a.completed.command ∷ a.completed.length ∷ ds)) ≡ frame_record wire = rw (c.frame_first.ensures, c.opening.ensures, address, counted) in
+    (omega (arith, ap length same, length-append ab (a.completed.command ∷ a.completed.length ∷ ds), counted, written), laid ∙ ap (put l 0) same)

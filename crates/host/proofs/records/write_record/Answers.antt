@@ -1,17 +1,17 @@
 -- What a byte ended decides which record, if any, was written.
-use mathlib.Core.Path.{refl, sym}
+use Rattle.std.proofs.Common.{rules, sym}
 use Rattle.octets.proofs.Put.{put-nil}
 use Rattle.host.specs.Record.{record_of}
 use Rattle.host.proofs.records.write_record.Goals as goal
 
-pub returns-in-Nothing : goal.returns-in-Nothing
+pub returns-in-Ok-None : goal.returns-in-Ok-None
 unfolding record_of
-returns-in-Nothing c = rw c.in-Nothing.is (refl, sym (put-nil c.args.room.now 0))
+returns-in-Ok-None c = let e = put-nil c.args.room.now 0 in search rules
 
-pub returns-in-Frame : goal.returns-in-Frame
+pub returns-in-Ok-Some : goal.returns-in-Ok-Some
 unfolding record_of
-returns-in-Frame c = rw c.in-Frame.is c.write_frame.ensures
+returns-in-Ok-Some c = search rules
 
-pub returns-in-Refused : goal.returns-in-Refused
+pub returns-in-Err : goal.returns-in-Err
 unfolding record_of
-returns-in-Refused c = rw c.in-Refused.is c.write_refusal.ensures
+returns-in-Err c = rw c.in-Err.is c.write_refusal.ensures

@@ -5,13 +5,13 @@ use mathlib.Core.Bool.{Bool, true, false}
 use Prim.Native.Nat.{ℕ}
 use Rattle.types.specs.declared.delimiter.FrameType.{FrameType}
 use Rattle.types.specs.declared.delimiter.FrameType.TheVariants.{Request, Response, Burst}
-use Rattle.types.specs.declared.delimiter.Delimiter.TheVariants.{Known}
+use Rattle.std.specs.Prelude.{Some}
 use Rattle.types.specs.Delimiter.{opening, delimiter, delimiter_of}
 use Rattle.types.proofs.Delimiters.{delimiter_back, delimiter_none}
 use Rattle.types.proofs.delimiter.read_delimiter.Goals as goal
 
 -- a byte that is some delimiter
-found : (t : FrameType) (long : Bool) {b : ℕ} → b ≡ delimiter (opening t long) → Known (opening t long) ≡ delimiter_of b
+found : (t : FrameType) (long : Bool) {b : ℕ} → b ≡ delimiter (opening t long) → Some (opening t long) ≡ delimiter_of b
 found t long e = sym (ap delimiter_of e ∙ delimiter_back (opening t long))
 
 pub returns-in-2 : goal.returns-in-2

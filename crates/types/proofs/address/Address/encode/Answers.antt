@@ -5,8 +5,8 @@ use mathlib.Core.List.{List, [], ◌∷◌}
 use lib.Bits.{bit_and, and_mask}
 use lib.ListN.{length, set}
 use Rattle.refusal.specs.Outcome.{done, ends}
-use Rattle.octets.specs.Put.{put}
-use Rattle.octets.proofs.Put.{set_is_put, put-wrote}
+use Rattle.octets.specs.Put.{put, put_if_fits}
+use Rattle.octets.proofs.Put.{set_is_put, put_fitting, put-wrote}
 use Rattle.types.specs.declared.first.MasterRole.{MasterRole}
 use Rattle.types.specs.declared.address.Address.TheVariants.{Short, Long}
 use Rattle.types.specs.Address.{address_length, first_byte, long_bytes, address_bytes, address_written}
@@ -44,4 +44,4 @@ returns-else-buf-lt-SHORT_ADDRESS_LENGTH c =
 pub returns-else-buf-lt-LONG_ADDRESS_LENGTH : goal.returns-else-buf-lt-LONG_ADDRESS_LENGTH
 returns-else-buf-lt-LONG_ADDRESS_LENGTH c =
     let a = c.args in
-    rw c.in-Long.is (long_stored _ _ _ _ _ a.buf.now c.first_byte-first.ensures c.write_long.ensures c.if-buf-lt-LONG_ADDRESS_LENGTH.false)
+    rw c.in-Long.is (long_stored _ _ _ _ _ a.buf.now c.first_byte-first.ensures (c.copy_into.ensures ∙ ap (put_if_fits a.buf.now 0) c.long_bytes.ensures ∙ put_fitting a.buf.now 0 _ c.if-buf-lt-LONG_ADDRESS_LENGTH.false) c.if-buf-lt-LONG_ADDRESS_LENGTH.false)
