@@ -59,10 +59,7 @@ fn write_number(number: u64, mark: u8, out: &mut [u8], at: usize) -> usize
     ensures writes { Writes out.old at (decimalText number ++ (mark ∷ [])) result out.new }
     ensures upper_bound { result ≤ at + 21 }
 {
-    let digits = decimal(number);
-    let text = digits.text;
-    let from = digits.from;
-    write_word(&text[from..], mark, out, at)
+    write_word(decimal(number).as_slice(), mark, out, at)
 }
 
 fn write_hex(bytes: &[u8], mark: u8, out: &mut [u8], at: usize) -> usize

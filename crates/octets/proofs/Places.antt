@@ -1,16 +1,11 @@
--- What stands at places of a list: at one that it has, whatever would stand past its end; and bytes at places in turn are a part of it.
-use Prim.Native.Nat.{ℕ, zero, suc, ◌+◌, ◌≤◌, ◌<◌}
+-- What stands at places of a list in turn is a part of it.
+use Prim.Native.Nat.{ℕ, zero, suc, ◌+◌, ◌≤◌}
 use native.Mathlib.Nat.{add-suc}
 use native.Mathlib.Omega.{arith}
 use mathlib.Core.Path.{◌≡◌, refl, sym, ap, ◌∙◌}
 use mathlib.Core.List.{List, [], ◌∷◌}
 use lib.ListN.{length, get_or, take, drop}
 use lib.Seq.{drop-cons}
-
-pub get_d_within : {A : Type 0} (l : List A) (i : ℕ) (d e : A) → i < length l → get_or l i d ≡ get_or l i e
-get_d_within [] i d e h = absurd (omega arith)
-get_d_within (x ∷ l) zero d e h = refl
-get_d_within (x ∷ l) (suc i) d e h = get_d_within l i d e (omega arith)
 
 -- what stands at n + j and behind it
 abbrev pub standing : List ℕ → ℕ → ℕ → ℕ → List ℕ

@@ -1,12 +1,8 @@
 -- Steps of a walk, for proofs that go through code operation by operation: a call whose contract names the struct that it gives back, and
 -- what a local holds, lent and back. They are of any struct; those who walk say which.
 use mathlib.Core.Path.{◌≡◌, refl, sym, ap, subst}
-use mathlib.Core.WellFounded.InvImage
-use mathlib.Core.WellFounded.{WellFounded}
 use mathlib.Core.List.{[], ◌∷◌, List}
-use Prim.Native.Nat.{ℕ, ◌+◌, ◌-◌, ◌<◌, ◌^◌}
-use native.Mathlib.Omega.{arith}
-use lib.WfN.{lt-wf_rel}
+use Prim.Native.Nat.{ℕ}
 use seplogic.Ra.Ura.{Ura}
 use base.Fraction.{full_share}
 use mir.Syntax.{named, Callee, Place, Opd as Operand, Body as Code, seq, call}
@@ -32,20 +28,6 @@ use denote.Struct.Laws as LL
 use denote.Steps.{only, owned, peeks, heard, nothing}
 use denote.Triple.Statement.{Contract, Triple}
 use denote.Triple.Call.{calls_at}
-
--- turns of a loop, ordered by how many of n are still to come behind the place that each stands at
-module _ {X : Type 0} (n : ℕ) (place : X → ℕ) where
-  abbrev pub ToCome : X → X → Type 0
-  ToCome x y = n - place x < n - place y
-
-  pub to_come_wf : WellFounded ToCome
-  to_come_wf = InvImage.wf (λ (x : X). n - place x) lt-wf_rel.wf
-
-pub one_less : {i n : ℕ} → i < n → n - (i + 1) < n - i
-one_less h = omega arith
-
-pub next_fits : {i n : ℕ} → i < n → n < 2 ^ 64 → i + 1 < 2 ^ 64
-next_fits h g = omega arith
 
 -- a reference to what stands at a place, by the place and the name of its loan, and what the lender keeps
 abbrev pub lent_at : {X : Type 0} → ℕ → GName → X → MutBor X

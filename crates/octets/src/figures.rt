@@ -1,6 +1,7 @@
 // Numbers as text: a number in decimal, and a byte as two upper-case hex digits.
-ghost use Rattle.std.specs.Prelude.{◌≡◌, ◌<◌};
-ghost use Rattle.octets.specs.Figures.{hex_digit, hex_byte, decimal_of};
+ghost use Rattle.std.specs.Prelude.{◌≡◌, ◌<◌, min};
+ghost use Rattle.octets.specs.Figures.{hex_digit, hex_byte, decimal_room, decimal_of};
+ghost use Rattle.octets.specs.Part.{part_of, from};
 
 // The largest u64 has so many digits.
 pub const DECIMAL_ROOM: usize = 20;
@@ -11,8 +12,17 @@ const LAST: usize = DECIMAL_ROOM - 1;
 // one first, so they stand at the end.
 #[derive(Clone, Copy)]
 pub struct Digits {
-    pub text: [u8; DECIMAL_ROOM],
-    pub from: usize,
+    text: [u8; DECIMAL_ROOM],
+    from: usize,
+}
+
+impl Digits {
+    // No byte is copied. Whatever `from` is, it takes no place past the end.
+    pub fn as_slice(&self) -> &[u8]
+        ensures { part_of result ≡ from (min self.now.from decimal_room) (record { place = self.entry.ref_ptr; bytes = self.now.text }) }
+    {
+        &self.text[self.from.min(DECIMAL_ROOM)..]
+    }
 }
 
 // With no zero in front.

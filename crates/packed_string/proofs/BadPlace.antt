@@ -4,11 +4,13 @@ use Prim.Native.Nat.{ℕ, zero, suc, ◌+◌, ◌≤◌, ◌<◌}
 use native.Mathlib.Nat.{zero-add, suc-add}
 use native.Mathlib.Omega.{arith}
 use mathlib.Core.Path.{◌≡◌, refl, sym, ap, ◌∙◌}
-use mathlib.Core.Bool.{Bool, true, false}
+use mathlib.Core.Bool.{Bool, true, false, cond, not, ◌&&◌}
 use mathlib.Core.List.{List, [], ◌∷◌, ◌++◌}
 use lib.ListN.{length, get_or}
-use lib.Dec.{leb}
-use borrow.Author.Tests.{leb-true, leb-false}
+use lib.Dec.{leb, ltb}
+use borrow.Author.Tests.{leb-true, leb-false, ltb-true, ltb-false}
+use Rattle.std.specs.Prelude.{Option, Some, None, position, unwrap_or}
+use Rattle.std.proofs.lemmas.List.Recursion.{is_position_or_len}
 use Rattle.packed_string.specs.Plain.{bad_place, Coded, Plain}
 
 pub bad_nil : bad_place [] ≡ 0
@@ -63,3 +65,40 @@ plain_place (c ∷ s) p = good_first c s p.0 ∙ ap suc (plain_place s p.1)
 pub place_plain : (s : List ℕ) → length s ≤ bad_place s → Plain s
 place_plain [] h = tt
 place_plain (c ∷ s) h = first_case c s (λ k e. (k, place_plain s (omega arith))) (λ n e. absurd (omega arith))
+
+-- what std's `position` finds of it: the place where there is one
+abbrev pub found_in : List ℕ → Option ℕ
+found_in s = position (λ (c : ℕ). not (leb 0x20 c && leb c 0x5F)) s
+
+turned : (coded : Bool) (n : ℕ) → cond coded (suc n) 0 ≡ cond (not coded) 0 (1 + n)
+turned true n = omega arith
+turned false n = refl
+
+one_more : (c : ℕ) (s : List ℕ) → bad_place (c ∷ s) ≡ cond (not (leb 0x20 c && leb c 0x5F)) 0 (1 + bad_place s)
+unfolding bad_place
+one_more c s = turned (leb 0x20 c && leb c 0x5F) (bad_place s)
+
+found_is : (s : List ℕ) → found_in s ≡ cond (ltb (bad_place s) (length s)) (Some (bad_place s)) None
+found_is s =
+    ap (λ (i : ℕ). cond (ltb i (length s)) (Some i) None) (sym (is_position_or_len bad_place (λ (c : ℕ). not (leb 0x20 c && leb c 0x5F)) bad_nil one_more s))
+
+pub found_some : (s : List ℕ) {i : ℕ} → found_in s ≡ Some i → (i ≡ bad_place s) × (bad_place s < length s)
+found_some s {i} e = by (ltb (bad_place s) (length s)) refl (sym (found_is s) ∙ e)
+  where
+    by : (b : Bool) → ltb (bad_place s) (length s) ≡ b → cond b (Some (bad_place s)) None ≡ Some i → (i ≡ bad_place s) × (bad_place s < length s)
+    by true h f = (cc, ltb-true (bad_place s) (length s) h)
+    by false h f = absurd cc
+
+pub found_none : (s : List ℕ) → found_in s ≡ None → length s ≤ bad_place s
+found_none s e = by (ltb (bad_place s) (length s)) refl (sym (found_is s) ∙ e)
+  where
+    by : (b : Bool) → ltb (bad_place s) (length s) ≡ b → cond b (Some (bad_place s)) None ≡ None → length s ≤ bad_place s
+    by true h f = absurd cc
+    by false h f = ltb-false (bad_place s) (length s) h
+
+pub found_or_length : (s : List ℕ) → unwrap_or (found_in s) (length s) ≡ bad_place s
+found_or_length s = ap (λ (o : Option ℕ). unwrap_or o (length s)) (found_is s) ∙ by (ltb (bad_place s) (length s)) refl
+  where
+    by : (b : Bool) → ltb (bad_place s) (length s) ≡ b → unwrap_or (cond b (Some (bad_place s)) None) (length s) ≡ bad_place s
+    by true h = refl
+    by false h = omega (arith, ltb-false (bad_place s) (length s) h, place_within s)

@@ -1,20 +1,17 @@
 // The characters that standard mode has no code for (ADDED).
-ghost use Rattle.std.specs.Prelude.{◌≡◌};
+ghost use Rattle.std.specs.Prelude.{◌≡◌, ◌&&◌, not, nat_le, position};
 ghost use Rattle.packed_string.specs.Plain.{bad_place};
 
-// The place of the first such character, or the text's length.
+// The place of the first such character.
+pub(crate) fn first_bad(src: &[u8]) -> Option<usize>
+    ensures { result ≡ position (λ c. not (nat_le 0x20 c && nat_le c 0x5F)) src.now }
+{
+    src.iter().position(|c| !(0x20..=0x5F).contains(c))
+}
+
+// The same, or the text's length.
 pub fn bad_place(src: &[u8]) -> usize
     ensures { result ≡ bad_place src.now }
 {
-    let mut i = 0;
-    while i < src.len() {
-        if src[i] < 0x20 {
-            return i;
-        }
-        if 0x5F < src[i] {
-            return i;
-        }
-        i += 1;
-    }
-    i
+    first_bad(src).unwrap_or(src.len())
 }

@@ -3,7 +3,7 @@ ghost use Rattle.std.specs.Prelude.{◌≡◌};
 ghost use Rattle.refusal.specs.Outcome.{ends, reply_of};
 ghost use Rattle.packed_string.specs.Standard.{standard_packed, standard_unpacked};
 
-use crate::bad_character::bad_place;
+use crate::bad_character::first_bad;
 use crate::text_group::Mode;
 use crate::text_groups::{pack, unpack};
 use refusal::Refusal;
@@ -17,8 +17,7 @@ pub fn encode_standard(src: &[u8], dst: &mut [u8]) -> Result<usize, Refusal>
     if dst.len() / 3 * 4 < length {
         return Err(Refusal::BufferTooSmall);
     }
-    let place = bad_place(src);
-    if place < length {
+    if let Some(place) = first_bad(src) {
         return Err(Refusal::BadCharacter(place));
     }
     Ok(pack(Mode::Standard, src, dst) * 3)

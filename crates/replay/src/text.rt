@@ -91,9 +91,7 @@ pub(crate) fn put_text(text: &[u8], from: usize, out: &mut [u8; OUT_SIZE], at: u
 }
 
 fn put_number(number: usize, out: &mut [u8; OUT_SIZE], at: usize) -> usize {
-    let digits = decimal(number as u64);
-    let text = digits.text;
-    put_text(&text, digits.from, out, at)
+    put_text(decimal(number as u64).as_slice(), 0, out, at)
 }
 
 // A number and the mark behind it.

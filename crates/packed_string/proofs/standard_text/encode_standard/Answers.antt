@@ -8,7 +8,7 @@ use Rattle.refusal.specs.Outcome.{refuses, wrote}
 use Rattle.packed_string.specs.declared.text_group.Mode.TheVariants.{Standard}
 use Rattle.packed_string.specs.Groups.{groups, packed, packed_count}
 use Rattle.packed_string.proofs.Groups.{packed_wrote}
-use Rattle.packed_string.specs.Plain.{bad_place}
+use Rattle.packed_string.proofs.BadPlace.{found_some, found_none}
 use Rattle.packed_string.proofs.StandardCalls.{standard_packs_no_room, standard_packs_bad, standard_packs}
 use Rattle.packed_string.proofs.standard_text.encode_standard.Goals as goal
 
@@ -16,11 +16,11 @@ pub returns-then-dst-length : goal.returns-then-dst-length
 returns-then-dst-length c =
     let a = c.args in sym (standard_packs_no_room a.src.now a.dst.now (omega arith))
 
-pub returns-then-place-length : goal.returns-then-place-length
-returns-then-place-length c =
+pub returns-in-Some : goal.returns-in-Some
+returns-in-Some c =
     let a = c.args in
-    let p : c.bad_place-place.result ≡ bad_place a.src.now = c.bad_place-place.ensures in
-    ap (λ (k : ℕ). refuses 7 (k ∷ []) a.dst.now) p ∙ sym (standard_packs_bad a.src.now a.dst.now (omega arith) (rw p at c.if-place-length.true))
+    let found = found_some a.src.now (sym c.first_bad.ensures ∙ c.in-Some.is) in
+    ap (λ (k : ℕ). refuses 7 (k ∷ []) a.dst.now) found.0 ∙ sym (standard_packs_bad a.src.now a.dst.now (omega arith) found.1)
 
 pub returns : goal.returns
 returns c =
@@ -29,7 +29,6 @@ returns c =
     let d = a.dst.now in
     let p = c.pack in
     let all : packed_count s d ≡ groups (length s) = omega arith in
-    let b : c.bad_place-place.result ≡ bad_place s = c.bad_place-place.ensures in
     packed_wrote Standard s d (packed_count s d) p.ensures.0 p.ensures.1
     ∙ ap (λ (k : ℕ). wrote (packed Standard s k) d) all
-    ∙ sym (standard_packs s d (omega arith) (rw b at c.if-place-length.false))
+    ∙ sym (standard_packs s d (omega arith) (found_none s (sym c.first_bad.ensures ∙ c.in_default.is)))

@@ -1,5 +1,4 @@
 -- The loop's invariant: the first g groups stand unpacked at the front of the buffer.
-use Prim.Native.Nat.{◌-◌, ◌≤◌}
 use mathlib.Core.Path.{◌≡◌}
 use lib.ListN.{length}
 use Rattle.octets.specs.Put.{put}
@@ -7,7 +6,4 @@ use Rattle.packed_string.specs.Groups.{unpacked}
 use Rattle.packed_string.proofs.text_groups.unpack.Given as goal
 
 abbrev pub invariant-loop-g : goal.invariant-loop-g
-invariant-loop-g l = (l.g ≤ l.n_groups) × (l.dst ≡ put l.initial.dst 0 (unpacked l.mode l.src l.g)) × (length l.dst ≡ length l.initial.dst)
-
-abbrev pub decreases-loop-g : goal.decreases-loop-g
-decreases-loop-g l = l.n_groups - l.g
+invariant-loop-g l = (l.dst ≡ put l.initial.dst 0 (unpacked l.mode l.src l.g)) × (length l.dst ≡ length l.initial.dst)
