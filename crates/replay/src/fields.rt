@@ -7,8 +7,8 @@ use crate::shape::{PUT_HEAD, PUT_MAX};
 use crate::text::{OUT_SIZE, put_marked, put_written};
 use refusal::Refusal;
 use response::{
-    DESCRIPTOR_LENGTH, Field, GROUP_SIZE, IDENTITY_SIZE, MAX_FIELDS, Placed, ResponseFields,
-    TAG_LENGTH, put_field, write_response,
+    DESCRIPTOR_LENGTH, Field, GROUP_SIZE, IDENTITY_SIZE, MAX_FIELDS, ResponseFields, TAG_LENGTH,
+    put_field, write_response,
 };
 
 // The bytes of a case that a field takes, its kind being one; of a kind that there is not, more than a case
@@ -98,12 +98,6 @@ struct Turn {
     at: usize,
 }
 
-fn put_placed(placed: Placed, out: &mut [u8; OUT_SIZE], at: usize) -> usize {
-    let written = placed.written;
-    let next = put_written(written, b'@', out, at);
-    put_marked(placed.at, b' ', out, next)
-}
-
 fn put_next(
     turn: Turn,
     bytes: &[u8],
@@ -114,10 +108,13 @@ fn put_next(
     if bytes.len() <= from {
         return turn;
     }
-    let placed = put_field(buffer, turn.place, field_in(rest(bytes, from)));
+    let reached = put_field(buffer, turn.place, field_in(rest(bytes, from)));
+    let written = reached.map(|place| place - turn.place);
+    let place = reached.unwrap_or(turn.place);
+    let at = put_written(written, b'@', out, turn.at);
     Turn {
-        place: placed.at,
-        at: put_placed(placed, out, turn.at),
+        place,
+        at: put_marked(place, b' ', out, at),
     }
 }
 

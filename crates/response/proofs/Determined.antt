@@ -1,14 +1,13 @@
 -- Each promise of this crate leaves one outcome: the answer, the payload and the place reached.
-use mathlib.Core.Path.{◌≡◌, refl, sym, ap₂, ◌∙◌}
+use mathlib.Core.Path.{◌≡◌, refl, sym, ap, ap₂, ◌∙◌}
 use mathlib.Core.List.{List}
 use Prim.Native.Nat.{ℕ}
 use denote.Ref.{MutBor}
 use Rattle.refusal.specs.Determined.{Determined, DeterminedLent}
-use Rattle.std.specs.Prelude.{Result}
+use Rattle.std.specs.Prelude.{Result, Ok, Err}
 use Rattle.refusal.specs.declared.Refusal.{Refusal}
 use Rattle.refusal.specs.Outcome.{reply_of}
-use Rattle.refusal.proofs.Known.{written_known, agree, agree_alone, agree_lent}
-use Rattle.response.specs.declared.field.Placed.{Placed}
+use Rattle.refusal.proofs.Known.{refusal_known, written_known, agree, agree_alone, agree_lent}
 use Rattle.response.specs.Field.{Placing, placing}
 use Rattle.response.proofs.field.Field.status.Kinds as field-status-kinds
 use Rattle.response.proofs.field.Field.status.Reads as field-status-reads
@@ -62,15 +61,15 @@ response_fields_new κs a r s x y = agree_alone
 pub response_fields_with : Determined 0 response-fields-with-kinds.ps response-fields-with-kinds.r response-fields-with-reads.Post (λ κs x. tt {0})
 response_fields_with κs a r s x y = agree_alone
 
--- an answer with the place reached is known by what it comes to
-placed_known : (r s : Placed) {b c : List ℕ} {o : Placing} → placing r b ≡ o → placing s c ≡ o → (r ≡ s) × (b ≡ c)
-placed_known r s p q =
-    let w : r.written ≡ s.written = written_known r.written s.written (cc) in
-    let n : r.at ≡ s.at = cc in
-    (ap₂ (λ (x : Result ℕ Refusal) (y : ℕ). record { written = x; at = y }) w n, cc)
+-- an answer is known by what it comes to at the place that was given
+placed_known : (at : ℕ) (r s : Result ℕ Refusal) {b c : List ℕ} {o : Placing} → placing at r b ≡ o → placing at s c ≡ o → (r ≡ s) × (b ≡ c)
+placed_known at (Ok m) (Ok n) p q = (cc, cc)
+placed_known at (Ok m) (Err s) p q = cc
+placed_known at (Err r) (Ok n) p q = cc
+placed_known at (Err r) (Err s) p q = (ap Err (refusal_known r s (cc) (cc)), cc)
 
 pub put_field : Determined 1 put-field-kinds.ps put-field-kinds.r put-field-reads.Post (λ κs x. x.0.now)
-put_field κs a r s x y p q = placed_known r s p q
+put_field κs a r s x y p q = placed_known _ r s p.0 q.0
 
 pub response_writer_new : DeterminedLent response-writer-new-contract.ended (λ M 𝓤 𝓛. response-writer-new-contract.clauses 𝓛) (λ κs x. tt {0})
 response_writer_new M 𝓤 𝓛 mem run κs a g r s x y =

@@ -6,8 +6,10 @@ use mathlib.Core.Bool.{Bool, true, false, cond}
 use mathlib.Core.List.{List, [], ◌∷◌}
 use lib.ListN.{length}
 use lib.Dec.{ltb}
-use borrow.Author.Tests.{lt-ltb, le-ltb, ltb-false}
+use borrow.Author.Tests.{lt-ltb, le-ltb, ltb-true, ltb-false}
+use Rattle.std.specs.Prelude.{Option, Some, None}
 use Rattle.refusal.specs.Outcome.{ends, done}
+use Rattle.line.specs.Layout.{most_data}
 use Rattle.octets.specs.Put.{put}
 use Rattle.octets.proofs.Put.{length-put}
 use Rattle.packed_string.proofs.Texts.{length-packed_text}
@@ -22,6 +24,26 @@ pub length-bytes : (kind : Kind) (cs : List ℕ) → length (bytes_in kind cs) �
 length-bytes Bytes cs = refl
 length-bytes Group cs = refl
 length-bytes (Text mode) cs = length-packed_text mode cs
+
+pub latest_small : (kind : Kind) → latest_of kind ≤ most_data
+latest_small Bytes = omega arith
+latest_small Group = omega arith
+latest_small (Text mode) = omega arith
+
+-- a place among so many characters, if it is one
+pub some_below : (place characters : ℕ) {found : ℕ} → Some found ≡ cond (ltb place characters) (Some place) None → (found ≡ place) × (place < characters)
+some_below place characters {found} e = by (ltb place characters) refl e
+  where
+    by : (b : Bool) → ltb place characters ≡ b → Some found ≡ cond b (Some place) None → (found ≡ place) × (place < characters)
+    by true t e = (cc, ltb-true place characters t)
+    by false t e = cc
+
+pub none_below : (place characters : ℕ) → None ≡ cond (ltb place characters) (Some place) None → characters ≤ place
+none_below place characters e = by (ltb place characters) refl e
+  where
+    by : (b : Bool) → ltb place characters ≡ b → ◌≡◌ {A = Option ℕ} None (cond b (Some place) None) → characters ≤ place
+    by true t e = cc
+    by false t e = ltb-false place characters t
 
 module _ (kind : Kind) (cs payload : List ℕ) (at : ℕ) where
   pub pushed_late : latest_of kind < at + size_in kind (length cs) → pushed_in kind cs payload at ≡ stays 1 [] payload at

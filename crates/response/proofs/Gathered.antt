@@ -1,5 +1,5 @@
 -- Fields added one by one: what they weigh, their bytes, and what a response of them comes to, without a look at the list that holds them.
-use Prim.Native.Nat.{ℕ, zero, suc, ◌+◌, ◌≤◌, ◌<◌}
+use Prim.Native.Nat.{ℕ, suc, ◌+◌, ◌≤◌, ◌<◌}
 use native.Mathlib.Omega.{arith}
 use mathlib.Core.Path.{◌≡◌, refl, sym, ap, ap₂, subst, ◌∙◌}
 use mathlib.Core.Bool.{Bool, false, cond, ◌||◌}
@@ -14,12 +14,12 @@ use Rattle.packed_string.specs.Modes.{bad_in, fields_written}
 use Rattle.response.specs.declared.field.Kind.{Kind}
 use Rattle.response.specs.declared.field.Field.{Field}
 use Rattle.response.specs.declared.writer.ResponseFields.{ResponseFields}
-use Rattle.response.specs.declared.whole.Weight.{Weight}
+use Rattle.response.specs.Whole.{Weight}
 use Rattle.response.specs.Sizes.{most_fields}
 use Rattle.response.specs.Field.{field_of, contents, bytes_in, size_in, characters_in, bad_of, latest_of}
 use Rattle.response.specs.Writer.{no_fields, with_field, field_at}
 use Rattle.response.specs.Whole.{bad_through, added_in, added, weighed, field_bytes, all_bytes, responded}
-use Rattle.response.proofs.Weights.{length_all}
+use Rattle.response.proofs.Weights.{length_all, weighed_alike, bytes_alike}
 
 abbrev weighing : Bool → ℕ → ℕ → ℕ → Weight
 weighing late size characters bad = record { late = late; size = size; characters = characters; bad = bad }
@@ -43,19 +43,6 @@ gathered_as had l s c b e = record {
   weight = had.weight ∙ (λ i. weighing (l i) (s i) (c i) (b i));
   bytes = had.bytes ∙ e;
 }
-
--- the same fields below n weigh the same and have the same bytes
-module _ (f g : ℕ → Field) where
-  weighed_alike : (n : ℕ) → ((k : ℕ) → k < n → f k ≡ g k) → weighed f n ≡ weighed g n
-  weighed_alike zero same = refl
-  weighed_alike (suc n) same = ap₂ added (weighed_alike n (λ k h. same k (omega arith))) (same n (omega arith))
-
-  bytes_alike : (n : ℕ) → ((k : ℕ) → k < n → f k ≡ g k) → all_bytes f n ≡ all_bytes g n
-  bytes_alike zero same = parts_zero (λ (k : ℕ). field_bytes (f k)) ∙ sym (parts_zero (λ (k : ℕ). field_bytes (g k)))
-  bytes_alike (suc n) same =
-      parts_suc (λ (k : ℕ). field_bytes (f k)) n
-      ∙ ap₂ (λ (x y : List ℕ). x ++ y) (bytes_alike n (λ k h. same k (omega arith))) (ap field_bytes (same n (omega arith)))
-      ∙ sym (parts_suc (λ (k : ℕ). field_bytes (g k)) n)
 
 -- one more
 module _ {fields : ResponseFields} {n : ℕ} {late : Bool} {size characters bad : ℕ} {bs : List ℕ} (had : Gathered fields n late size characters bad bs) (room : n < most_fields) (kind : Kind) (cs : List ℕ) where

@@ -1,41 +1,25 @@
 -- What the fields of a response weigh, and that fields which pass the tests stand one behind another once they are put in turn.
 use Prim.Native.Nat.{ℕ, zero, suc, ◌+◌, ◌≤◌, ◌<◌}
 use native.Mathlib.Omega.{arith}
-use mathlib.Core.Path.{◌≡◌, refl, sym, ap, ◌∙◌}
+use mathlib.Core.Path.{◌≡◌, refl, sym, ap, ap₂, ◌∙◌}
 use mathlib.Core.Bool.{Bool, true, false, cond, ◌||◌}
-use mathlib.Core.List.{List, [], ◌∷◌}
-use lib.ListN.{length, length-append}
+use mathlib.Core.List.{List, [], ◌∷◌, ◌++◌}
+use mathlib.Core.Logic.{◌⊎◌, inl, inr}
+use lib.ListN.{length, take, length-append}
 use lib.Dec.{ltb}
 use borrow.Author.Tests.{lt-ltb, le-ltb, ltb-true, ltb-false}
+use Rattle.std.specs.Prelude.{Some, None}
 use Rattle.refusal.specs.Outcome.{done, ends, wrote, refuses}
 use Rattle.octets.specs.Put.{put, first_parts}
 use Rattle.octets.proofs.Put.{length-put, put-put, put-wrote}
-use Rattle.octets.proofs.Parts.{parts_suc, parts_start}
-use Rattle.packed_string.proofs.Texts.{bad_in_within}
-use Rattle.response.specs.declared.field.Kind.{Kind}
-use Rattle.response.specs.declared.field.Kind.TheVariants.{Bytes, Group, Text}
+use Rattle.octets.proofs.Parts.{parts_zero, parts_suc, parts_start}
 use Rattle.response.specs.declared.field.Field.{Field}
 use Rattle.response.specs.Sizes.{most_fields}
-use Rattle.response.specs.Field.{contents, size_in, characters_in, bad_of, latest_of, pushed_in}
-use Rattle.response.specs.Writer.{behind, in_turn}
-use Rattle.response.specs.Whole.{bad_through, weighed, field_bytes, all_bytes, responded}
-use Rattle.response.proofs.Fields.{length-bytes, pushed_fits}
-
-pub size_small : (kind : Kind) (n : ℕ) → n ≤ 255 → size_in kind n ≤ 255
-size_small Bytes n h = h
-size_small Group n h = h
-size_small (Text mode) n h = omega arith
-
-pub characters_small : (kind : Kind) (n : ℕ) → n ≤ 255 → characters_in kind n ≤ 255
-characters_small Bytes n h = omega arith
-characters_small Group n h = omega arith
-characters_small (Text mode) n h = h
-
--- the first bad place is in the text or at its end
-pub bad_within : (kind : Kind) (cs : List ℕ) → bad_of kind cs ≤ characters_in kind (length cs)
-bad_within Bytes cs = omega arith
-bad_within Group cs = omega arith
-bad_within (Text mode) cs = bad_in_within mode cs
+use Rattle.response.specs.Field.{contents, bad_place_in_field, size_in, field_size, field_characters, characters_in, bad_of, latest_of, pushed_in}
+use Rattle.std.proofs.lemmas.List.{get_or-take}
+use Rattle.response.specs.Writer.{nth_field, behind, in_turn}
+use Rattle.response.specs.Whole.{first_bad, bad_through, added, weighed, field_bytes, all_bytes, responded}
+use Rattle.response.proofs.Fields.{some_below, length-bytes, pushed_fits}
 
 -- of two texts, where neither has a bad place the second has none
 good_second : (bad characters here more : ℕ) → characters + more ≤ bad_through bad characters here → (characters ≤ bad) × (more ≤ here)
@@ -49,7 +33,78 @@ or-false : (x y : Bool) → (x || y) ≡ false → (x ≡ false) × (y ≡ false
 or-false true y e = (e, cc)
 or-false false y e = (refl, e)
 
+zero_or_less : {n : ℕ} → n ≤ 0 → 0 ≡ n
+zero_or_less h = omega arith
+
+last_or_before : (n m : ℕ) → n ≤ suc m → (suc m ≡ n) ⊎ (n ≤ m)
+last_or_before n m h = by (ltb m n) refl
+  where
+    by : (b : Bool) → ltb m n ≡ b → (suc m ≡ n) ⊎ (n ≤ m)
+    by true t = inl (omega (arith, ltb-true m n t))
+    by false t = inr (ltb-false m n t)
+
+-- the same fields below n weigh the same and have the same bytes
+module _ (f g : ℕ → Field) where
+  pub weighed_alike : (n : ℕ) → ((k : ℕ) → k < n → f k ≡ g k) → weighed f n ≡ weighed g n
+  weighed_alike zero same = refl
+  weighed_alike (suc n) same = ap₂ added (weighed_alike n (λ k h. same k (omega arith))) (same n (omega arith))
+
+  pub bytes_alike : (n : ℕ) → ((k : ℕ) → k < n → f k ≡ g k) → all_bytes f n ≡ all_bytes g n
+  bytes_alike zero same = parts_zero (λ (k : ℕ). field_bytes (f k)) ∙ sym (parts_zero (λ (k : ℕ). field_bytes (g k)))
+  bytes_alike (suc n) same =
+      parts_suc (λ (k : ℕ). field_bytes (f k)) n
+      ∙ ap₂ (λ (x y : List ℕ). x ++ y) (bytes_alike n (λ k h. same k (omega arith))) (ap field_bytes (same n (omega arith)))
+      ∙ sym (parts_suc (λ (k : ℕ). field_bytes (g k)) n)
+
 module _ (field : ℕ → Field) where
+  -- what ends too late does so with more fields behind it
+  pub late_on : (n m : ℕ) → n ≤ m → (weighed field n).late ≡ true → (weighed field m).late ≡ true
+  late_on n zero h e = ap (λ (k : ℕ). (weighed field k).late) (zero_or_less h) ∙ e
+  late_on n (suc m) h e =
+      let w = weighed field m in
+      let f = field m in
+      elim (last_or_before n m h) [
+        | inl same ↦ ap (λ (k : ℕ). (weighed field k).late) same ∙ e
+        | inr before ↦ ap (λ (b : Bool). b || ltb (latest_of f.kind) (w.size + field_size f)) (late_on n m before e)
+      ]
+
+  pub late_with : (n : ℕ) → latest_of (field n).kind < (weighed field n).size + field_size (field n) → (weighed field (suc n)).late ≡ true
+  late_with n h = by (weighed field n).late (lt-ltb _ _ h)
+    where
+      by : (b : Bool) {c : Bool} → c ≡ true → (b || c) ≡ true
+      by true e = refl
+      by false e = e
+
+  -- and what is the first bad place stays so
+  pub bad_on : (n m : ℕ) → n ≤ m → (weighed field n).bad < (weighed field n).characters
+      → ((weighed field m).bad ≡ (weighed field n).bad) × ((weighed field m).bad < (weighed field m).characters)
+  bad_on n zero h e =
+      let same = zero_or_less h in
+      (ap (λ (k : ℕ). (weighed field k).bad) same, omega (arith, ap (λ (k : ℕ). (weighed field k).bad) same, ap (λ (k : ℕ). (weighed field k).characters) same))
+  bad_on n (suc m) h e =
+      let w = weighed field m in
+      let f = field m in
+      elim (last_or_before n m h) [
+        | inl same ↦ (ap (λ (k : ℕ). (weighed field k).bad) same, omega (arith, ap (λ (k : ℕ). (weighed field k).bad) same, ap (λ (k : ℕ). (weighed field k).characters) same))
+        | inr before ↦
+            let had = bad_on n m before e in
+            let here : (weighed field (suc m)).bad ≡ w.bad = ap (λ (b : Bool). cond b w.bad (w.characters + bad_of f.kind (contents f))) (lt-ltb w.bad w.characters had.1) in
+            (here ∙ had.0, omega (arith, here, had.1))
+      ]
+
+  pub first_bad_here : (n m place : ℕ) → n < m → (weighed field n).characters ≤ (weighed field n).bad → Some place ≡ bad_place_in_field (field n)
+      → Some ((weighed field n).characters + place) ≡ first_bad (weighed field m)
+  first_bad_here n m place h good e =
+      let w = weighed field n in
+      let v = weighed field m in
+      let f = field n in
+      let bad = bad_of f.kind (contents f) in
+      let found = some_below bad (field_characters f) e in
+      let here : (weighed field (suc n)).bad ≡ w.characters + bad = ap (λ (b : Bool). cond b w.bad (w.characters + bad)) (le-ltb w.bad w.characters good) in
+      let there = bad_on (suc n) m (omega arith) (omega (arith, here, found.1)) in
+      let same : w.characters + place ≡ v.bad = omega (arith, here, found.0, there.0) in
+      ap Some same ∙ sym (ap (λ (b : Bool). cond b (Some v.bad) None) (lt-ltb v.bad v.characters there.1))
+
   pub length_all : (n : ℕ) → length (all_bytes field n) ≡ (weighed field n).size
   unfolding first_parts
   length_all zero = refl
@@ -103,8 +158,19 @@ module _ (field : ℕ → Field) where
           unfolding responded
           responded_whole h = rw (le-ltb most_fields n few, late, le-ltb _ _ room, le-ltb _ _ h)
 
-          pub responded_fits : (weighed field n).characters ≤ (weighed field n).bad → {l : List ℕ} {at : ℕ} → (l, at) ≡ in_turn field n (payload, 0)
+          pub responded_fits : (weighed field n).characters ≤ (weighed field n).bad → {l : List ℕ} → l ≡ (in_turn field n (payload, 0)).0
               → ends (done ((weighed field n).size ∷ [])) l ≡ responded field n payload
-          responded_fits h {l} {at} e =
-              let there : l ≡ put payload 0 (all_bytes field n) = ap (λ (x : List ℕ × ℕ). x.0) (e ∙ in_turn_fits payload n late room h) in
+          responded_fits h e =
+              let there = e ∙ ap (λ (x : List ℕ × ℕ). x.0) (in_turn_fits payload n late room h) in
               put-wrote payload (all_bytes field n) there (sym (length_all n)) ∙ sym (responded_whole h)
+
+-- the first fields of a list, as a slice has them
+module _ (list fields : List Field) (n : ℕ) (first : fields ≡ take n list) (count : length fields ≡ n) (payload : List ℕ) where
+  in_slice : (k : ℕ) → k < n → nth_field list k ≡ nth_field fields k
+  in_slice k h = sym (ap (λ (l : List Field). nth_field l k) first ∙ get_or-take n list k _ h)
+
+  pub responded_slice : responded (nth_field list) n payload ≡ responded (nth_field fields) (length fields) payload
+  unfolding responded
+  responded_slice =
+      rw count
+      rw (weighed_alike (nth_field list) (nth_field fields) n in_slice, bytes_alike (nth_field list) (nth_field fields) n in_slice)

@@ -1,6 +1,8 @@
 -- Document 02, 1/12: a field of a response, and what putting it at a place of the lent payload comes to.
-use Rattle.std.specs.Prelude.{ℕ, ◌+◌, cond, List, [], ◌∷◌, length, take, ltb}
-use Rattle.refusal.specs.Outcome.{Outcome, ends, done, refuses, reply_of}
+use Rattle.std.specs.Prelude.{ℕ, ◌+◌, ◌-◌, cond, List, [], ◌∷◌, length, take, ltb, Option, Some, None, Result, Ok, Err}
+use Rattle.refusal.specs.Table.{number_of, values_of}
+use Rattle.refusal.specs.declared.Refusal.{Refusal}
+use Rattle.refusal.specs.Outcome.{Outcome, ends, done, refuses}
 use Rattle.octets.specs.Put.{put}
 use Rattle.packed_string.specs.Modes.{packed_text, packed_size, bad_in}
 use Rattle.line.specs.Layout.{most_data}
@@ -9,7 +11,6 @@ use Rattle.response.specs.Sizes.{groups_end, field_room}
 use Rattle.response.specs.declared.field.Kind.{Kind}
 use Rattle.response.specs.declared.field.Kind.TheVariants.{Bytes, Group, Text}
 use Rattle.response.specs.declared.field.Field.{Field}
-use Rattle.response.specs.declared.field.Placed.{Placed}
 
 -- a field of some contents, with zeros behind them, and the contents of a field
 abbrev pub field_of : Kind → List ℕ → Field
@@ -41,18 +42,32 @@ bad_of Bytes cs = 0
 bad_of Group cs = 0
 bad_of (Text mode) cs = bad_in mode cs
 
+-- the same of a field: the bytes it takes, its characters, and the place of the first without a code, if there is one
+abbrev pub field_size : Field → ℕ
+field_size f = size_in f.kind (length (contents f))
+
+abbrev pub field_characters : Field → ℕ
+field_characters f = characters_in f.kind (length (contents f))
+
+abbrev pub bad_place_in_field : Field → Option ℕ
+bad_place_in_field f =
+    let bad : ℕ = bad_of f.kind (contents f) in
+    cond (ltb bad (field_characters f)) (Some bad) None
+
 -- where it has to end at the latest: a frame's data are 255 bytes at most, and a ninth group of command 9 would end behind the eighth
 abbrev pub latest_of : Kind → ℕ
 latest_of Bytes = most_data
 latest_of Group = groups_end
 latest_of (Text mode) = most_data
 
--- what a call on a payload and a place comes to: its outcome, and the place reached
+-- what a call on a payload and a place comes to: its outcome, and the place reached. One that is done gives that place, and has written
+-- what lies before it; behind one that is refused the place is the one that it had
 pub data Placing : Type 0 where
   leads : Outcome → ℕ → Placing
 
-abbrev pub placing : Placed → List ℕ → Placing
-placing r payload = leads (ends (reply_of r.written) payload) r.at
+abbrev pub placing : ℕ → Result ℕ Refusal → List ℕ → Placing
+placing at (Ok end) payload = leads (ends (done ((end - at) ∷ [])) payload) end
+placing at (Err r) payload = leads (refuses (number_of r) (values_of r) payload) at
 
 -- a refused field writes nothing and moves no place
 abbrev pub stays : ℕ → List ℕ → List ℕ → ℕ → Placing

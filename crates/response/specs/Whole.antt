@@ -1,12 +1,21 @@
 -- Document 02, 1/12: a whole response, its fields one behind another.
-use Rattle.std.specs.Prelude.{ℕ, zero, suc, ◌+◌, false, cond, ◌||◌, List, [], ◌∷◌, length, ltb}
+use Rattle.std.specs.Prelude.{ℕ, zero, suc, ◌+◌, Bool, false, cond, ◌||◌, List, [], ◌∷◌, length, ltb, Option, Some, None, Result, Ok, Err}
+use Rattle.refusal.specs.declared.Refusal.{Refusal}
+use Rattle.refusal.specs.declared.Refusal.TheVariants.{DataTooLong}
 use Rattle.refusal.specs.Outcome.{Outcome, wrote, refuses}
 use Rattle.octets.specs.Put.{first_parts}
 use Rattle.response.specs.Sizes.{most_fields}
 use Rattle.response.specs.Field.{contents, bytes_in, size_in, characters_in, bad_of, latest_of}
 use Rattle.response.specs.declared.field.Kind.{Kind}
 use Rattle.response.specs.declared.field.Field.{Field}
-use Rattle.response.specs.declared.whole.Weight.{Weight}
+
+-- what fields weigh: whether one ends too late, the bytes of all, their characters, and the first place of one without a code, or their
+-- number
+pub record Weight : Type 0 where
+  pub late : Bool
+  pub size : ℕ
+  pub characters : ℕ
+  pub bad : ℕ
 
 -- the first bad place of two texts, one behind the other: that of the first, or past it that of the second
 abbrev pub bad_through : ℕ → ℕ → ℕ → ℕ
@@ -28,6 +37,13 @@ added w f = added_in w f.kind (contents f)
 abbrev pub weighed : (ℕ → Field) → ℕ → Weight
 weighed field zero = record { late = false; size = 0; characters = 0; bad = 0 }
 weighed field (suc n) = added (weighed field n) (field n)
+
+-- as a call gives it: the bytes, or 1 where one ends too late; and the first bad place, if there is one
+abbrev pub size_or_late : Weight → Result ℕ Refusal
+size_or_late w = cond w.late (Err DataTooLong) (Ok w.size)
+
+abbrev pub first_bad : Weight → Option ℕ
+first_bad w = cond (ltb w.bad w.characters) (Some w.bad) None
 
 -- their bytes
 abbrev pub field_bytes : Field → List ℕ

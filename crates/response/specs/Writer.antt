@@ -39,5 +39,8 @@ with_field fields f =
     (record { list = fields.list; count = suc most_fields })
 
 -- the field of a number
+abbrev pub nth_field : List Field → ℕ → Field
+nth_field list i = get_or list i (record { kind = Bytes; bytes = []; length = 0 })
+
 abbrev pub field_at : ResponseFields → ℕ → Field
-field_at fields i = get_or fields.list i (record { kind = Bytes; bytes = []; length = 0 })
+field_at fields = nth_field fields.list

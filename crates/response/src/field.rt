@@ -1,14 +1,15 @@
 // A field of a response, by value, and how it comes into a payload at a place.
-ghost use Rattle.std.specs.Prelude.{◌≡◌, [], ◌∷◌, ◌+◌, ◌≤◌, length, take};
+ghost use Rattle.std.specs.Prelude.{◌≡◌, [], ◌∷◌, ◌≤◌, ◌<◌, length, IfSome, IfOk};
+ghost use Rattle.line.specs.Layout.{most_data};
 ghost use Rattle.octets.specs.Put.{put};
 ghost use Rattle.response.specs.declared.field.Kind.TheVariants.{Bytes, Group, Text};
 ghost use Rattle.response.specs.Sizes.{field_room};
-ghost use Rattle.response.specs.Field.{field_of, bytes_in, size_in, characters_in, bad_of, latest_of, pushed_in, placing, pushed_field};
+ghost use Rattle.response.specs.Field.{field_of, contents, bytes_in, size_in, latest_of, field_size, field_characters, bad_place_in_field, placing, pushed_field};
 
 use crate::sizes::{
     DATA_ROOM, DESCRIPTOR_LENGTH, FIELD_ROOM, GROUP_SIZE, GROUPS_END, IDENTITY_SIZE, TAG_LENGTH,
 };
-use octets::{copy_into, least};
+use octets::copy_into;
 use packed_string::{Mode, bad_place_in, encode_in};
 use refusal::Refusal;
 
@@ -20,7 +21,30 @@ pub enum Kind {
     Text(Mode),
 }
 
-// Its contents are the first `length` of the bytes.
+impl Kind {
+    // How many bytes so many contents take.
+    fn size(self, n: usize) -> usize
+        ensures { result ≡ size_in self n }
+    {
+        match self {
+            Kind::Bytes | Kind::Group => n,
+            Kind::Text(_) => n.div_ceil(4) * 3,
+        }
+    }
+
+    // The place where a field has to end at the latest.
+    pub(crate) fn latest(self) -> usize
+        ensures { result ≡ latest_of self }
+    {
+        match self {
+            Kind::Bytes | Kind::Text(_) => DATA_ROOM,
+            Kind::Group => GROUPS_END,
+        }
+    }
+}
+
+// Its contents are the first `length` of the bytes: there is no heap, so they stand in an array that holds the longest.
+// Each constructor is a name of HART's and the length that goes with it; all stand on `field_of`.
 #[derive(Clone, Copy)]
 pub struct Field {
     pub kind: Kind,
@@ -28,18 +52,11 @@ pub struct Field {
     pub length: u8,
 }
 
-// What putting a field came to, and the place reached.
-#[derive(Clone, Copy)]
-pub struct Placed {
-    pub written: Result<usize, Refusal>,
-    pub at: usize,
-}
-
 fn field_of(kind: Kind, contents: &[u8]) -> Field
     requires { length contents.now ≤ field_room }
     ensures { result ≡ field_of kind contents.now }
 {
-    let mut bytes = [0u8; FIELD_ROOM];
+    let mut bytes = [0; FIELD_ROOM];
     copy_into(contents, &mut bytes, 0);
     Field {
         kind,
@@ -52,27 +69,21 @@ impl Field {
     pub(crate) fn none() -> Field
         ensures { result ≡ field_of Bytes [] }
     {
-        Field {
-            kind: Kind::Bytes,
-            bytes: [0u8; FIELD_ROOM],
-            length: 0,
-        }
+        field_of(Kind::Bytes, &[])
     }
 
     // The two status bytes that every response begins with.
     pub fn status(first: u8, second: u8) -> Field
         ensures { result ≡ field_of Bytes (first ∷ second ∷ []) }
     {
-        let contents = [first, second];
-        field_of(Kind::Bytes, &contents)
+        field_of(Kind::Bytes, &[first, second])
     }
 
     // The byte that stands before the groups of command 9.
     pub fn extended_status(byte: u8) -> Field
         ensures { result ≡ field_of Bytes (byte ∷ []) }
     {
-        let contents = [byte];
-        field_of(Kind::Bytes, &contents)
+        field_of(Kind::Bytes, &[byte])
     }
 
     // The bytes of a device variable.
@@ -104,119 +115,77 @@ impl Field {
     pub fn date(day: u8, month: u8, year: u8) -> Field
         ensures { result ≡ field_of Bytes (day ∷ month ∷ year ∷ []) }
     {
-        let contents = [day, month, year];
-        field_of(Kind::Bytes, &contents)
+        field_of(Kind::Bytes, &[day, month, year])
     }
-}
 
-fn stays(refusal: Refusal, at: usize) -> Placed
-    ensures { result ≡ record { written = Err refusal; at = at } }
-{
-    Placed {
-        written: Err(refusal),
-        at,
+    // A made-up field may claim more than it holds.
+    fn contents(&self) -> &[u8]
+        ensures value { result.now ≡ contents self.now }
+        ensures short { length result.now ≤ field_room }
+    {
+        let count = FIELD_ROOM.min(self.length as usize);
+        &self.bytes[..count]
     }
-}
 
-// How many bytes a field of so many contents takes.
-pub(crate) fn size_in(kind: Kind, n: usize) -> usize
-    ensures { result ≡ size_in kind n }
-{
-    match kind {
-        Kind::Bytes => n,
-        Kind::Group => n,
-        Kind::Text(_) => { if n % 4 == 0 { n / 4 * 3 } else { n / 4 * 3 + 3 } }
+    // How many bytes it takes.
+    pub(crate) fn size(&self) -> usize
+        ensures value { result ≡ field_size self.now }
+        ensures short { result ≤ field_room }
+    {
+        self.kind.size(self.contents().len())
     }
-}
 
-// The place where it has to end at the latest.
-pub(crate) fn latest_of(kind: Kind) -> usize
-    ensures { result ≡ latest_of kind }
-{
-    match kind {
-        Kind::Bytes => DATA_ROOM,
-        Kind::Group => GROUPS_END,
-        Kind::Text(_) => DATA_ROOM,
+    // How many characters it has.
+    pub(crate) fn characters(&self) -> usize
+        ensures value { result ≡ field_characters self.now }
+        ensures short { result ≤ field_room }
+    {
+        match self.kind {
+            Kind::Bytes | Kind::Group => 0,
+            Kind::Text(_) => self.contents().len(),
+        }
     }
-}
 
-// How many characters it has.
-pub(crate) fn characters_in(kind: Kind, n: usize) -> usize
-    ensures { result ≡ characters_in kind n }
-{
-    match kind {
-        Kind::Bytes => 0,
-        Kind::Group => 0,
-        Kind::Text(_) => n,
-    }
-}
-
-// The place of the first character without a code, or their number.
-pub(crate) fn bad_of(kind: Kind, contents: &[u8]) -> usize
-    ensures { result ≡ bad_of kind contents.now }
-{
-    match kind {
-        Kind::Bytes => 0,
-        Kind::Group => 0,
-        Kind::Text(mode) => bad_place_in(mode, contents),
-    }
-}
-
-fn write_in(kind: Kind, contents: &[u8], payload: &mut [u8], at: usize, end: usize)
-    requires { (end ≡ at + size_in kind (length contents.now)) × (end ≤ length payload.old) × (characters_in kind (length contents.now) ≤ bad_of kind contents.now) }
-    ensures { payload.new ≡ put payload.old at (bytes_in kind contents.now) }
-{
-    match kind {
-        Kind::Bytes => copy_into(contents, payload, at),
-        Kind::Group => copy_into(contents, payload, at),
-        Kind::Text(mode) => {
-            let _ = encode_in(mode, contents, &mut payload[at..end]);
+    // The place of the first character without a code.
+    pub(crate) fn bad_place(&self) -> Option<usize>
+        ensures value { result ≡ bad_place_in_field self.now }
+        ensures short { IfSome result (λ place. place < field_room) }
+    {
+        match self.kind {
+            Kind::Bytes | Kind::Group => None,
+            Kind::Text(mode) => {
+                let contents = self.contents();
+                let place = bad_place_in(mode, contents);
+                (place < contents.len()).then_some(place)
+            }
         }
     }
 }
 
-// The contents at the place: 1 where they would end too late, 2 where there is no room, 7 for a character
+// The slice-and-position function that the writer's method stands on. It gives the place behind the field; a
+// refused field writes nothing: 1 where it would end too late, 2 where there is no room, 7 for a character
 // without a code.
-fn put_contents(kind: Kind, contents: &[u8], payload: &mut [u8], at: usize) -> Placed
-    ensures { placing result payload.new ≡ pushed_in kind contents.now payload.old at }
+pub fn put_field(payload: &mut [u8], at: usize, field: Field) -> Result<usize, Refusal>
+    ensures placed { placing at result payload.new ≡ pushed_field field payload.old at }
+    ensures onward { IfOk result (λ behind. (at ≤ behind) × (behind ≤ most_data)) }
 {
-    let size = size_in(kind, contents.len());
-    let latest = latest_of(kind);
-    if latest < size {
-        return stays(Refusal::DataTooLong, at);
+    let size = field.size();
+    let end = at.saturating_add(size);
+    if field.kind.latest() < end {
+        return Err(Refusal::DataTooLong);
     }
-    if latest - size < at {
-        return stays(Refusal::DataTooLong, at);
-    }
-    let end = at + size;
     if payload.len() < end {
-        return stays(Refusal::BufferTooSmall, at);
+        return Err(Refusal::BufferTooSmall);
     }
-    let bad = bad_of(kind, contents);
-    if bad < characters_in(kind, contents.len()) {
-        return stays(Refusal::BadCharacter(bad), at);
+    if let Some(place) = field.bad_place() {
+        return Err(Refusal::BadCharacter(place));
     }
-    write_in(kind, contents, payload, at, end);
-    Placed {
-        written: Ok(size),
-        at: end,
+    let contents = field.contents();
+    match field.kind {
+        Kind::Bytes | Kind::Group => copy_into(contents, payload, at),
+        Kind::Text(mode) => {
+            let _ = encode_in(mode, contents, &mut payload[at..end]);
+        }
     }
-}
-
-// The first n of some bytes are the contents, or all of them.
-fn put_first(kind: Kind, bytes: &[u8], n: usize, payload: &mut [u8], at: usize) -> Placed
-    ensures { placing result payload.new ≡ pushed_in kind (take n bytes.now) payload.old at }
-{
-    let count = least(n, bytes.len());
-    put_contents(kind, &bytes[..count], payload, at)
-}
-
-// The slice-and-position function that the writer's method stands on. A refused field writes nothing and
-// moves no place.
-pub fn put_field(payload: &mut [u8], at: usize, field: Field) -> Placed
-    ensures { placing result payload.new ≡ pushed_field field payload.old at }
-{
-    let kind = field.kind;
-    let bytes = field.bytes;
-    put_first(kind, &bytes, field.length as usize, payload, at)
+    Ok(end)
 }

@@ -7,7 +7,7 @@ mod sizes;
 mod whole;
 mod writer;
 
-pub use field::{Field, Kind, Placed, put_field};
+pub use field::{Field, Kind, put_field};
 pub use sizes::{
     DESCRIPTOR_LENGTH, GROUP_SIZE, GROUPS_END, IDENTITY_SIZE, MAX_DEVICE_VARS, TAG_LENGTH,
 };

@@ -1,9 +1,9 @@
 // The response writer: it remembers the payload that it was lent and the place that it has reached. What putting a
 // field comes to is `put_field`'s; here it is only called.
-ghost use Rattle.std.specs.Prelude.{◌≡◌, ◌≤◌, ◌<◌};
+ghost use Rattle.std.specs.Prelude.{◌≡◌, ◌≤◌, ◌<◌, length, take, MatchOption};
 ghost use Rattle.refusal.specs.Outcome.{reply_of};
 ghost use Rattle.response.specs.Sizes.{most_fields};
-ghost use Rattle.response.specs.Writer.{reply_in, advanced, pushed_on, no_fields, with_field, field_at, in_turn};
+ghost use Rattle.response.specs.Writer.{reply_in, advanced, pushed_on, no_fields, with_field, nth_field, in_turn};
 
 use crate::field::{Field, put_field};
 use crate::sizes::MAX_DEVICE_VARS;
@@ -23,13 +23,13 @@ impl<'a> ResponseWriter<'a> {
     }
 
     // One field more, behind those that are there.
-    pub fn push<'s>(&'s mut self, field: Field) -> Result<usize, Refusal>
+    pub fn push(&mut self, field: Field) -> Result<usize, Refusal>
         ensures { (reply_of result ≡ reply_in (pushed_on self.old field)) × (self.new ≡ advanced self.old (pushed_on self.old field)) }
     {
         let at = self.at;
-        let placed = put_field(&mut *self.payload, at, field);
-        self.at = placed.at;
-        placed.written
+        let end = put_field(self.payload, at, field)?;
+        self.at = end;
+        Ok(end - at)
     }
 }
 
@@ -37,7 +37,7 @@ impl<'a> ResponseWriter<'a> {
 pub const MAX_FIELDS: usize = 2 + MAX_DEVICE_VARS;
 
 // The fields of a response in turn: the first `count`. More than there is room for are counted as one too
-// many, and no response is then written.
+// many, and no response is then written. `write_response` answers for any count, so the type rules none out.
 #[derive(Clone, Copy)]
 pub struct ResponseFields {
     pub list: [Field; MAX_FIELDS],
@@ -48,51 +48,38 @@ impl ResponseFields {
     pub fn new() -> ResponseFields
         ensures { result ≡ no_fields }
     {
-        let none = Field::none();
         ResponseFields {
-            list: [none; MAX_FIELDS],
+            list: [Field::none(); MAX_FIELDS],
             count: 0,
         }
     }
 
-    pub fn with(self, field: Field) -> ResponseFields
+    pub fn with(mut self, field: Field) -> ResponseFields
         ensures { result ≡ with_field self field }
     {
-        let mut list = self.list;
-        let count = self.count;
-        if count < MAX_FIELDS {
-            list[count] = field;
-            return ResponseFields {
-                list,
-                count: count + 1,
-            };
+        if self.count < MAX_FIELDS {
+            self.list[self.count] = field;
+            self.count += 1;
+        } else {
+            self.count = MAX_FIELDS + 1;
         }
-        ResponseFields {
-            list,
-            count: MAX_FIELDS + 1,
-        }
+        self
+    }
+
+    // Those that were added, unless they are too many.
+    pub(crate) fn as_slice(&self) -> Option<&[Field]>
+        ensures { MatchOption result (most_fields < self.now.count) (λ fields. (self.now.count ≤ most_fields) × (fields.now ≡ take self.now.count self.now.list) × (length fields.now ≡ self.now.count)) }
+    {
+        self.list.get(..self.count)
     }
 }
 
-pub(crate) fn field_at(fields: ResponseFields, i: usize) -> Field
-    requires { i < most_fields }
-    ensures { result ≡ field_at fields i }
-{
-    let list = fields.list;
-    list[i]
-}
-
-// All fields in turn, by one writer, and the place that it comes to. Its callers need no writer.
-pub(crate) fn write_fields(fields: ResponseFields, payload: &mut [u8]) -> usize
-    requires { fields.count ≤ most_fields }
-    ensures { (payload.new, result) ≡ in_turn (field_at fields) fields.count (payload.old, 0) }
+// All fields in turn, by one writer.
+pub(crate) fn write_fields(fields: &[Field], payload: &mut [u8])
+    ensures { payload.new ≡ (in_turn (nth_field fields.now) (length fields.now) (payload.old, 0)).0 }
 {
     let mut writer = ResponseWriter::new(payload);
-    let mut i: usize = 0;
-    while i < fields.count {
-        let field = field_at(fields, i);
-        let _ = writer.push(field);
-        i += 1;
+    for field in fields {
+        let _ = writer.push(*field);
     }
-    writer.at
 }
