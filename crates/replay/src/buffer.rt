@@ -1,6 +1,5 @@
 // A buffer that a call is lent.
-ghost use Rattle.std.specs.Prelude.{◌≤◌};
-
+use crate::bytes::{Bytes, Full};
 use crate::given::NoCase;
 use crate::shown::HexOrDash;
 use std::fmt;
@@ -9,50 +8,40 @@ use std::fmt;
 const ROOM_MAX: usize = 1024;
 
 #[derive(Drop)]
-pub(crate) struct Buffer {
-    bytes: [u8; ROOM_MAX],
-    length: usize,
-    ghost within: { length ≤ 1024 },
-}
+pub(crate) struct Buffer(Bytes<ROOM_MAX>);
 
-fn front(bytes: &mut [u8; ROOM_MAX], length: usize) -> &mut [u8]
-    requires { length ≤ 1024 }
-{
-    &mut bytes[..length]
+impl From<Full> for NoCase {
+    fn from(_: Full) -> NoCase {
+        NoCase
+    }
 }
 
 impl Buffer {
     // Of so many bytes. One that a call leaves alone can be told by its place.
     pub(crate) fn new(length: usize) -> Result<Buffer, NoCase> {
-        if length > ROOM_MAX {
-            return Err(NoCase);
+        let mut bytes = Bytes::new();
+        for i in 0..length {
+            bytes.push(0xA0 | (i % 16) as u8)?;
         }
-        let mut bytes = [0; ROOM_MAX];
-        for (i, byte) in bytes.iter_mut().enumerate() {
-            *byte = 0xA0 | (i % 16) as u8;
-        }
-        Ok(Buffer { bytes, length })
+        Ok(Buffer(bytes))
     }
 
     // Of these bytes.
     pub(crate) fn holding(held: &[u8]) -> Result<Buffer, NoCase> {
-        let length = held.len();
-        if length > ROOM_MAX {
-            return Err(NoCase);
+        let mut bytes = Bytes::new();
+        for byte in held {
+            bytes.push(*byte)?;
         }
-        let mut bytes = [0; ROOM_MAX];
-        bytes[..length].copy_from_slice(held);
-        Ok(Buffer { bytes, length })
+        Ok(Buffer(bytes))
     }
 
     pub(crate) fn lent(&mut self) -> &mut [u8] {
-        let length = self.length;
-        front(&mut self.bytes, length)
+        self.0.as_mut_slice()
     }
 }
 
 impl fmt::Display for Buffer {
     fn fmt<W: fmt::Write>(&self, f: &mut fmt::Formatter<W>) -> fmt::Result {
-        write!(f, "{}", HexOrDash(&self.bytes[..self.length]))
+        write!(f, "{}", HexOrDash(self.0.as_slice()))
     }
 }

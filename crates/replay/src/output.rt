@@ -1,6 +1,5 @@
 // The answers that are not written yet, and what keeps a line from an answer.
-ghost use Rattle.std.specs.Prelude.{◌≤◌};
-
+use crate::bytes::Bytes;
 use crate::given::NoCase;
 use std::fmt;
 use std::fmt::Write;
@@ -40,33 +39,25 @@ impl From<fmt::Error> for Failed {
 // The last of the answers begins at `answer`.
 #[derive(Drop)]
 pub(crate) struct Output {
-    bytes: [u8; OUT_SIZE],
-    length: usize,
+    bytes: Bytes<OUT_SIZE>,
     answer: usize,
-    ghost within: { length ≤ 65536 },
 }
 
 impl Output {
     pub(crate) fn new() -> Output {
         Output {
-            bytes: [0; OUT_SIZE],
-            length: 0,
+            bytes: Bytes::new(),
             answer: 0,
         }
     }
 
     pub(crate) fn put(&mut self, byte: u8) -> fmt::Result {
-        if self.length == OUT_SIZE {
-            return Err(fmt::Error);
-        }
-        self.bytes[self.length] = byte;
-        self.length += 1;
-        Ok(())
+        self.bytes.push(byte).or(Err(fmt::Error))
     }
 
     // Parts what follows from what the answer has, if that is anything.
     pub(crate) fn put_gap(&mut self) -> fmt::Result {
-        if self.answer < self.length {
+        if self.answer < self.bytes.len() {
             self.put(b' ')?;
         }
         Ok(())
@@ -74,7 +65,7 @@ impl Output {
 
     // Where the answer has nothing, a dot is its answer.
     pub(crate) fn put_silence(&mut self) -> fmt::Result {
-        if self.answer == self.length {
+        if self.answer == self.bytes.len() {
             self.put(b'.')?;
         }
         Ok(())
@@ -82,21 +73,21 @@ impl Output {
 
     pub(crate) fn end_answer(&mut self) -> fmt::Result {
         self.put(b'\n')?;
-        self.answer = self.length;
+        self.answer = self.bytes.len();
         Ok(())
     }
 
     // The longest answer might not fit behind what is there.
     pub(crate) fn is_full(&self) -> bool {
-        self.length > OUT_SIZE - ANSWER_MAX
+        self.bytes.len() > OUT_SIZE - ANSWER_MAX
     }
 
     pub(crate) fn bytes(&self) -> &[u8] {
-        &self.bytes[..self.length]
+        self.bytes.as_slice()
     }
 
     pub(crate) fn clear(&mut self) {
-        self.length = 0;
+        self.bytes.clear();
         self.answer = 0;
     }
 }
