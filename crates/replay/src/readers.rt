@@ -11,24 +11,27 @@ use commands::{
 use framing::PayloadVerdict;
 use std::fmt;
 use std::fmt::Write;
-use types::{Address, AddressRead, ResponseStatus};
+use types::{Address, ResponseStatus};
 
 // An address and how many bytes it took.
 #[derive(Drop)]
-struct Located(Address, usize);
+struct Located {
+    address: Address,
+    used: usize,
+}
 
 impl fmt::Display for Located {
     fn fmt<W: fmt::Write>(&self, f: &mut fmt::Formatter<W>) -> fmt::Result {
-        write!(f, "{} {}", self.1, AddressBytes(self.0))
+        write!(f, "{} {}", self.used, AddressBytes(self.address))
     }
 }
 
 pub(crate) fn read_address(mut given: Given, out: &mut Output) -> Answered {
     let is_long = given.flag()?;
-    let read = match Address::decode(given.rest(), is_long) {
-        AddressRead::Read { address, used } => Ok(Located(address, used)),
-        AddressRead::Refused(refusal) => Err(refusal),
-    };
+    let read = Address::decode(given.rest(), is_long).map(|(address, used)| Located {
+        address,
+        used,
+    });
     write!(out, "{}", Told(read))?;
     Ok(())
 }
