@@ -1,49 +1,65 @@
 // The letters that leave nothing behind for the lines that follow.
 use crate::blocks::{clear_copy, feed_copy};
-use crate::case::{NO_LETTER, REMARK};
-use crate::choices::{is_capital, mode_of};
+use crate::case::REMARK;
 use crate::constants::put_constants;
+use crate::fields::{put_in_turn, write_whole};
+use crate::given::{Given, NoCase};
 use crate::measured::read_reading;
+use crate::output::{Answered, Output};
 use crate::payloads::{read_payload, read_typed};
 use crate::readers::{
-    put_identity, read_address, read_date, read_status, read_stored, read_tag, read_variables,
+    read_address, read_device, read_identity, read_status, read_stored, read_tag, read_tagged,
+    read_texts, read_variables,
 };
 use crate::requests::read_request;
-use crate::text::{OUT_SIZE, put};
-use crate::writers::answer_writing;
-use commands::{DeviceIdentity, read_device_id, read_unique_id_by_tag};
+use crate::responses::write_response;
+use crate::writers::{
+    write_address, write_codes, write_frame, write_no_data, write_packed, write_tag, write_texts,
+    write_unpacked,
+};
+use commands::Mode;
 
-// The calls that only read.
-fn answer_reading(letter: u8, bytes: &[u8], out: &mut [u8; OUT_SIZE], at: usize) -> usize {
-    let mode = mode_of(is_capital(letter));
+// A call that has both modes has a small letter for that of the Rust, and the capital one for the standard.
+pub(crate) fn answer_call(letter: u8, given: Given, out: &mut Output) -> Answered {
     match letter {
-        b'a' => read_address(bytes, out, at),
-        b's' => read_status(bytes, out, at),
-        b'i' => put_identity(DeviceIdentity::decode(bytes), out, at),
-        b'g' | b'G' => read_variables(mode, bytes, out, at),
-        b'm' => read_reading(bytes, out, at),
-        b'j' => put_identity(read_unique_id_by_tag::decode_data(bytes), out, at),
-        b'k' | b'K' => read_tag(mode, bytes, out, at),
-        b'h' | b'H' => read_date(mode, bytes, out, at),
-        b'I' => put_identity(read_device_id::decode_data(bytes), out, at),
-        b'J' => read_stored(bytes, out, at),
-        _ => put(NO_LETTER, out, at),
-    }
-}
-
-pub(crate) fn answer_call(letter: u8, bytes: &[u8], out: &mut [u8; OUT_SIZE], at: usize) -> usize {
-    match letter {
-        REMARK => put(REMARK, out, at),
-        b'y' => read_payload(bytes, out, at),
-        b'f' => read_typed(bytes, out, at),
-        b'Q' => read_request(bytes, out, at),
-        b'o' => feed_copy(bytes, out, at),
-        b'c' => clear_copy(bytes, out, at),
-        b'x' => put_constants(out, at),
-        b'w' | b'e' | b'p' | b'P' | b'u' | b'U' | b'q' | b't' | b'T' | b'd' | b'D' => {
-            answer_writing(letter, bytes, out, at)
+        REMARK => {
+            out.put(REMARK)?;
+            Ok(())
         }
-        b'O' | b'R' | b'W' | b'F' => answer_writing(letter, bytes, out, at),
-        _ => answer_reading(letter, bytes, out, at),
+        b'w' => write_address(given, out),
+        b'a' => read_address(given, out),
+        b'e' => write_frame(given, out),
+        b'p' => write_packed(Mode::Crate, given, out),
+        b'P' => write_packed(Mode::Standard, given, out),
+        b'u' => write_unpacked(Mode::Crate, given, out),
+        b'U' => write_unpacked(Mode::Standard, given, out),
+        b's' => read_status(given, out),
+        b'i' => read_identity(given, out),
+        b'q' => write_codes(given, out),
+        b'g' => read_variables(Mode::Crate, given, out),
+        b'G' => read_variables(Mode::Standard, given, out),
+        b'm' => read_reading(given, out),
+        b't' => write_tag(Mode::Crate, given, out),
+        b'T' => write_tag(Mode::Standard, given, out),
+        b'j' => read_tagged(given, out),
+        b'k' => read_tag(Mode::Crate, given, out),
+        b'K' => read_tag(Mode::Standard, given, out),
+        b'd' => write_texts(Mode::Crate, given, out),
+        b'D' => write_texts(Mode::Standard, given, out),
+        b'h' => read_texts(Mode::Crate, given, out),
+        b'H' => read_texts(Mode::Standard, given, out),
+        b'I' => read_device(given, out),
+        b'J' => read_stored(given, out),
+        b'O' => write_no_data(given, out),
+        b'x' => put_constants(given, out),
+        b'y' => read_payload(given, out),
+        b'f' => read_typed(given, out),
+        b'Q' => read_request(given, out),
+        b'R' => write_response(given, out),
+        b'W' => put_in_turn(given, out),
+        b'F' => write_whole(given, out),
+        b'o' => feed_copy(given, out),
+        b'c' => clear_copy(given, out),
+        _ => Err(NoCase.into()),
     }
 }

@@ -1,5 +1,7 @@
 // The numbers of frames, delimiters, addresses and commands, letter x: document 01, 'Modules'.
-use crate::text::{OUT_SIZE, put_byte, put_gap, put_two_bytes};
+use crate::given::Given;
+use crate::output::{Answered, Output};
+use std::fmt::Write;
 use types::consts::address::{
     BURST_MODE_BIT, MANUFACTURER_ID_MASK, PRIMARY_MASTER_BIT, SHORT_ADDRESS_MASK,
 };
@@ -20,9 +22,7 @@ use types::consts::{
     MIN_PREAMBLE_COUNT, PREAMBLE_BYTE,
 };
 
-const COUNT: usize = 39;
-
-const CONSTANTS: [usize; COUNT] = [
+const CONSTANTS: [usize; 39] = [
     PREAMBLE_BYTE as usize,
     MIN_PREAMBLE_COUNT as usize,
     MAX_PREAMBLE_COUNT as usize,
@@ -64,24 +64,15 @@ const CONSTANTS: [usize; COUNT] = [
     READ_ADDITIONAL_STATUS as usize,
 ];
 
-fn put_constant(i: usize, out: &mut [u8; OUT_SIZE], at: usize) -> usize {
-    if i >= COUNT {
-        return at;
+pub(crate) fn put_constants(given: Given, out: &mut Output) -> Answered {
+    given.end()?;
+    for number in CONSTANTS {
+        out.put_gap()?;
+        if number > 255 {
+            write!(out, "{number:04X}")?;
+        } else {
+            write!(out, "{number:02X}")?;
+        }
     }
-    let number = CONSTANTS[i];
-    if number > 255 {
-        return put_two_bytes(number, out, at);
-    }
-    put_byte((number % 256) as u8, out, at)
-}
-
-pub(crate) fn put_constants(out: &mut [u8; OUT_SIZE], at: usize) -> usize {
-    let mut behind = at;
-    let mut i = 0;
-    while i < COUNT {
-        let parted = put_gap(at, out, behind);
-        behind = put_constant(i, out, parted);
-        i += 1;
-    }
-    behind
+    Ok(())
 }

@@ -1,49 +1,50 @@
 // The dump's lines, letters A and E: what the program `dump` prints of the same bytes.
-use crate::bytes::first;
-use crate::hearing::put_silence;
-use crate::text::{OUT_SIZE, put_refusal, put_text};
+use crate::given::Given;
+use crate::output::{Answered, Failed, Output};
+use crate::shown::Refused;
 use dump_lines::{Dump, LINE_MAX};
+use std::fmt;
+use std::fmt::Write;
 
-// The dump behind some bytes, and the place behind their lines.
-#[derive(Drop)]
-pub(crate) struct Dumped {
-    pub dump: Dump,
-    pub at: usize,
-}
+// No answer has more room.
+const LINES_MAX: usize = 65536;
 
-// Where the lines left no room for all bytes to be taken, the output counts as full.
-fn put_lines(all: bool, lines: &[u8], out: &mut [u8; OUT_SIZE], at: usize) -> usize {
-    if !all {
-        return OUT_SIZE;
+// A line's end within an answer is a semicolon.
+fn put_lines(lines: &[u8], out: &mut Output) -> fmt::Result {
+    for character in lines {
+        out.put(if *character == b'\n' {
+            b';'
+        } else {
+            *character
+        })?;
     }
-    let behind = put_text(lines, 0, out, at);
-    put_silence(at, out, behind)
+    Ok(())
 }
 
-pub(crate) fn dump_bytes(dump: Dump, bytes: &[u8], out: &mut [u8; OUT_SIZE], at: usize) -> Dumped {
-    let mut lines = [0u8; OUT_SIZE];
+// Where the lines left no room for all bytes to be taken, the answer is too long.
+pub(crate) fn dump_bytes(dump: &mut Dump, mut given: Given, out: &mut Output) -> Answered {
+    let bytes = given.rest();
+    let mut lines = [0u8; LINES_MAX];
     let taken = dump.take(bytes, &mut lines);
-    let next = taken.dump;
-    let all = taken.used == bytes.len();
-    Dumped {
-        dump: next,
-        at: put_lines(all, first(&lines, taken.written), out, at),
+    *dump = taken.dump;
+    if taken.used < bytes.len() {
+        return Err(Failed::NoRoom);
     }
-}
-
-fn less_one(n: usize) -> usize {
-    if n == 0 {
-        return 0;
-    }
-    n - 1
+    put_lines(lines.get(..taken.written).unwrap_or(&[]), out)?;
+    out.put_silence()?;
+    Ok(())
 }
 
 // The last line, without its newline, as it would be now.
-pub(crate) fn put_end(dump: Dump, out: &mut [u8; OUT_SIZE], at: usize) -> usize {
+pub(crate) fn put_end(dump: &Dump, given: Given, out: &mut Output) -> Answered {
+    given.end()?;
     let mut line = [0u8; LINE_MAX];
-    let written = dump.end(&mut line);
-    match written {
-        Ok(n) => put_text(first(&line, less_one(n)), 0, out, at),
-        Err(refusal) => put_refusal(refusal, out, at),
+    match dump.end(&mut line) {
+        Ok(written) => {
+            let line = line.get(..written).unwrap_or(&[]);
+            put_lines(line.strip_suffix(b"\n").unwrap_or(line), out)?;
+        }
+        Err(refusal) => write!(out, "{}", Refused(refusal))?,
     }
+    Ok(())
 }

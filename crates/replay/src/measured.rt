@@ -1,10 +1,12 @@
 // What a measured value is worth, letter m. A float gives its bits only where it is no NaN, so the variable's bits
 // are shown if the reading's float and the variable's value are the float that is made of them here, by
 // arithmetic alone: where the library reads bits otherwise the answer is `other`.
-use crate::text::{OUT_SIZE, put_bytes, put_text};
+use crate::given::Given;
+use crate::output::{Answered, Output};
 use commands::read_device_vars::DeviceVariable;
 use commands::{Mode, Reading, read_device_vars};
-use octets::encode_u32_be;
+use std::fmt;
+use std::fmt::Write;
 use std::num::nearest_u32_to_f32;
 
 // The exponent bits that stand for a factor of 1, where the significand is read as a whole number.
@@ -20,10 +22,8 @@ fn significand(exponent: u32, fraction: u32) -> u32 {
 
 fn multiplied(number: f32, factor: f32, times: u32) -> f32 {
     let mut number = number;
-    let mut left = times;
-    while left > 0 {
+    for _ in 0..times {
         number = number * factor;
-        left -= 1;
     }
     number
 }
@@ -55,35 +55,30 @@ fn is_same(a: f32, b: f32) -> bool {
     (a == b) & (1.0 / a == 1.0 / b)
 }
 
-fn put_float(
-    word: &[u8],
-    float: f32,
-    variable: DeviceVariable,
-    out: &mut [u8; OUT_SIZE],
-    at: usize,
-) -> usize {
+// A word and the bits that the float was read from.
+fn put_float(word: &str, float: f32, variable: DeviceVariable, out: &mut Output) -> fmt::Result {
     let made = float_of(variable.bits);
-    let next = put_text(word, 0, out, at);
     if is_same(float, made) & is_same(variable.value, made) {
-        return put_bytes(&encode_u32_be(variable.bits), out, next);
-    }
-    put_text(b"other", 0, out, next)
-}
-
-fn put_reading(variable: DeviceVariable, out: &mut [u8; OUT_SIZE], at: usize) -> usize {
-    let reading = variable.reading();
-    match reading {
-        Reading::Good(float) => put_float(b"good ", float, variable, out, at),
-        Reading::Poor(float) => put_float(b"poor ", float, variable, out, at),
-        Reading::Fixed(float) => put_float(b"fixed ", float, variable, out, at),
-        Reading::Bad => put_text(b"bad", 0, out, at),
-        Reading::Absent => put_text(b"absent", 0, out, at),
+        write!(out, "{word} {:08X}", variable.bits)
+    } else {
+        write!(out, "{word} other")
     }
 }
 
-pub(crate) fn read_reading(bytes: &[u8], out: &mut [u8; OUT_SIZE], at: usize) -> usize {
-    let response = read_device_vars::decode_data(Mode::Crate, bytes);
-    let variables = response.variables;
-    let variable = variables[0];
-    put_reading(variable, out, at)
+fn put_reading(variable: DeviceVariable, out: &mut Output) -> fmt::Result {
+    match variable.reading() {
+        Reading::Good(float) => put_float("good", float, variable, out),
+        Reading::Poor(float) => put_float("poor", float, variable, out),
+        Reading::Fixed(float) => put_float("fixed", float, variable, out),
+        Reading::Bad => write!(out, "bad"),
+        Reading::Absent => write!(out, "absent"),
+    }
+}
+
+pub(crate) fn read_reading(mut given: Given, out: &mut Output) -> Answered {
+    let group: [u8; 8] = given.array()?;
+    given.end()?;
+    let [variable, ..] = read_device_vars::decode_data(Mode::Crate, &group).variables;
+    put_reading(variable, out)?;
+    Ok(())
 }

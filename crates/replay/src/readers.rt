@@ -1,184 +1,201 @@
 // The calls that only read, letters a, s, i, I, g, G, j, k, K, h, H and J.
-use crate::addresses::address_bytes;
-use crate::bytes::{byte_at, rest};
-use crate::choices::mode_of;
-use crate::text::{OUT_SIZE, put, put_bytes, put_marked, put_refusal};
-use commands::read_device_vars::{DeviceVariable, MAX_DEVICE_VARS, ReadDeviceVarsResponse};
+use crate::addresses::AddressBytes;
+use crate::given::Given;
+use crate::output::{Answered, Output};
+use crate::shown::{Hex, Told};
+use commands::read_device_vars::{DeviceVariable, ReadDeviceVarsResponse};
 use commands::{
-    DeviceIdentity, IdentityRead, Mode, TagDescriptorDate, read_device_vars,
+    DeviceIdentity, IdentityRead, Mode, TagDescriptorDate, read_device_id, read_device_vars,
     read_tag_descriptor_date, read_unique_id_by_tag, write_tag_descriptor_date,
 };
 use framing::PayloadVerdict;
-use octets::{encode_u16_be, encode_u32_be, least};
-use refusal::Refusal;
+use std::fmt;
+use std::fmt::Write;
 use types::{Address, ResponseStatus};
 
-fn put_address_read(
-    read: Result<(Address, usize), Refusal>,
-    out: &mut [u8; OUT_SIZE],
-    at: usize,
-) -> usize {
-    match read {
-        Ok((address, used)) => {
-            let next = put_marked(used, b' ', out, at);
-            put_bytes(&address_bytes(address), out, next)
-        }
-        Err(refusal) => put_refusal(refusal, out, at),
+// An address and how many bytes it took.
+#[derive(Drop)]
+struct Located {
+    address: Address,
+    used: usize,
+}
+
+impl fmt::Display for Located {
+    fn fmt<W: fmt::Write>(&self, f: &mut fmt::Formatter<W>) -> fmt::Result {
+        write!(f, "{} {}", self.used, AddressBytes(self.address))
     }
 }
 
-pub(crate) fn read_address(bytes: &[u8], out: &mut [u8; OUT_SIZE], at: usize) -> usize {
-    let read = Address::decode(rest(bytes, 1), byte_at(bytes, 0) == 1);
-    put_address_read(read, out, at)
+pub(crate) fn read_address(mut given: Given, out: &mut Output) -> Answered {
+    let is_long = given.flag()?;
+    let read = Address::decode(given.rest(), is_long).map(|(address, used)| Located {
+        address,
+        used,
+    });
+    write!(out, "{}", Told(read))?;
+    Ok(())
 }
 
-// A byte whose two hex digits are the two.
-fn digits_of(first: bool, second: bool) -> u8 {
-    if first {
-        return if second { 0x11 } else { 0x10 };
-    }
-    if second { 0x01 } else { 0x00 }
-}
-
-fn status_digits(status: ResponseStatus) -> [u8; 3] {
-    [
-        digits_of(status.has_error(), status.device_malfunction()),
-        digits_of(status.config_changed(), status.cold_start()),
-        digits_of(status.more_status_available(), status.pv_out_of_limits()),
-    ]
-}
-
-pub(crate) fn read_status(bytes: &[u8], out: &mut [u8; OUT_SIZE], at: usize) -> usize {
-    let status = ResponseStatus::from_bytes([byte_at(bytes, 0), byte_at(bytes, 1)]);
-    put_bytes(&status_digits(status), out, at)
-}
-
-fn identity_bytes(identity: DeviceIdentity) -> [u8; 14] {
-    let device_type = encode_u16_be(identity.expanded_device_type);
-    let number = encode_u32_be(identity.device_id);
-    [
-        identity.expansion_code,
-        device_type[0],
-        device_type[1],
-        identity.min_preamble_count,
-        identity.hart_revision,
-        identity.device_revision,
-        identity.software_revision,
-        identity.hardware_revision,
-        identity.physical_signaling,
-        identity.flags,
-        number[0],
-        number[1],
-        number[2],
-        number[3],
-    ]
-}
-
-pub(crate) fn put_identity(read: IdentityRead, out: &mut [u8; OUT_SIZE], at: usize) -> usize {
-    match read {
-        IdentityRead::Identity(identity) => put_bytes(&identity_bytes(identity), out, at),
-        IdentityRead::Refused(refusal) => put_refusal(refusal, out, at),
-    }
-}
-
-fn variable_bytes(variable: DeviceVariable) -> [u8; 8] {
-    let bits = encode_u32_be(variable.bits);
-    [
-        variable.device_var_code,
-        variable.classification,
-        variable.unit,
-        bits[0],
-        bits[1],
-        bits[2],
-        bits[3],
-        variable.status,
-    ]
-}
-
-fn put_each_variable(
-    response: ReadDeviceVarsResponse,
-    out: &mut [u8; OUT_SIZE],
-    at: usize,
-) -> usize {
-    let variables = response.variables;
-    let end = least(response.count as usize, MAX_DEVICE_VARS);
-    let mut behind = at;
-    let mut i: usize = 0;
-    while i < end {
-        let variable = variables[i];
-        behind = put_bytes(&variable_bytes(variable), out, behind);
-        i += 1;
-    }
-    behind
-}
-
-pub(crate) fn put_variables(
-    response: ReadDeviceVarsResponse,
-    out: &mut [u8; OUT_SIZE],
-    at: usize,
-) -> usize {
-    let verdict = response.verdict;
-    if let PayloadVerdict::Refused(refusal) = verdict {
-        return put_refusal(refusal, out, at);
-    }
-    let next = put_marked(response.count as usize, b' ', out, at);
-    if response.count == 0 {
-        return put(b'-', out, next);
-    }
-    put_each_variable(response, out, next)
-}
-
-pub(crate) fn read_tag(mode: Mode, bytes: &[u8], out: &mut [u8; OUT_SIZE], at: usize) -> usize {
-    let packed = [
-        byte_at(bytes, 0),
-        byte_at(bytes, 1),
-        byte_at(bytes, 2),
-        byte_at(bytes, 3),
-        byte_at(bytes, 4),
-        byte_at(bytes, 5),
+pub(crate) fn read_status(mut given: Given, out: &mut Output) -> Answered {
+    let status = ResponseStatus::from_bytes(given.array()?);
+    given.end()?;
+    let bits = [
+        status.has_error(),
+        status.device_malfunction(),
+        status.config_changed(),
+        status.cold_start(),
+        status.more_status_available(),
+        status.pv_out_of_limits(),
     ];
-    let tag = read_unique_id_by_tag::decode_tag(mode, packed);
-    put_bytes(&tag, out, at)
-}
-
-fn put_fields(response: TagDescriptorDate, out: &mut [u8; OUT_SIZE], at: usize) -> usize {
-    let tag = response.tag;
-    let descriptor = response.descriptor;
-    let tagged = put_bytes(&tag, out, at);
-    let described = put_bytes(&descriptor, out, tagged);
-    put_bytes(
-        &[response.day, response.month, response.year],
-        out,
-        described,
-    )
-}
-
-pub(crate) fn put_date(response: TagDescriptorDate, out: &mut [u8; OUT_SIZE], at: usize) -> usize {
-    let verdict = response.verdict;
-    if let PayloadVerdict::Refused(refusal) = verdict {
-        return put_refusal(refusal, out, at);
+    for bit in bits {
+        write!(out, "{}", u8::from(bit))?;
     }
-    put_fields(response, out, at)
+    Ok(())
 }
 
-pub(crate) fn read_variables(
-    mode: Mode,
-    bytes: &[u8],
-    out: &mut [u8; OUT_SIZE],
-    at: usize,
-) -> usize {
-    put_variables(read_device_vars::decode_data(mode, bytes), out, at)
+#[derive(Drop)]
+struct Identity(DeviceIdentity);
+
+impl fmt::Display for Identity {
+    fn fmt<W: fmt::Write>(&self, f: &mut fmt::Formatter<W>) -> fmt::Result {
+        let identity = self.0;
+        write!(
+            f,
+            "{:02X}{:04X}{:02X}",
+            identity.expansion_code, identity.expanded_device_type, identity.min_preamble_count
+        )?;
+        write!(
+            f,
+            "{}{:08X}",
+            Hex(&[
+                identity.hart_revision,
+                identity.device_revision,
+                identity.software_revision,
+                identity.hardware_revision,
+                identity.physical_signaling,
+                identity.flags,
+            ]),
+            identity.device_id
+        )
+    }
 }
 
-pub(crate) fn read_date(mode: Mode, bytes: &[u8], out: &mut [u8; OUT_SIZE], at: usize) -> usize {
-    put_date(write_tag_descriptor_date::decode_data(mode, bytes), out, at)
+pub(crate) fn put_identity(read: IdentityRead, out: &mut Output) -> fmt::Result {
+    let read = match read {
+        IdentityRead::Identity(identity) => Ok(Identity(identity)),
+        IdentityRead::Refused(refusal) => Err(refusal),
+    };
+    write!(out, "{}", Told(read))
 }
 
-pub(crate) fn read_stored(bytes: &[u8], out: &mut [u8; OUT_SIZE], at: usize) -> usize {
-    let mode = mode_of(byte_at(bytes, 0) == 1);
-    put_date(
-        read_tag_descriptor_date::decode_data(mode, rest(bytes, 1)),
-        out,
-        at,
+#[derive(Drop)]
+struct Variables(ReadDeviceVarsResponse);
+
+fn write_variable<W: fmt::Write>(
+    variable: DeviceVariable,
+    f: &mut fmt::Formatter<W>,
+) -> fmt::Result {
+    let DeviceVariable {
+        device_var_code,
+        classification,
+        unit,
+        value: _,
+        bits,
+        status,
+    } = variable;
+    write!(
+        f,
+        "{device_var_code:02X}{classification:02X}{unit:02X}{bits:08X}{status:02X}"
     )
+}
+
+impl fmt::Display for Variables {
+    fn fmt<W: fmt::Write>(&self, f: &mut fmt::Formatter<W>) -> fmt::Result {
+        let count = self.0.count;
+        write!(f, "{count} ")?;
+        if count == 0 {
+            return f.write_str("-");
+        }
+        for variable in self.0.variables.iter().take(count as usize) {
+            write_variable(*variable, f)?;
+        }
+        Ok(())
+    }
+}
+
+pub(crate) fn put_variables(response: ReadDeviceVarsResponse, out: &mut Output) -> fmt::Result {
+    let read = match response.verdict {
+        PayloadVerdict::Carried => Ok(Variables(response)),
+        PayloadVerdict::Refused(refusal) => Err(refusal),
+    };
+    write!(out, "{}", Told(read))
+}
+
+#[derive(Drop)]
+struct Texts(TagDescriptorDate);
+
+impl fmt::Display for Texts {
+    fn fmt<W: fmt::Write>(&self, f: &mut fmt::Formatter<W>) -> fmt::Result {
+        let texts = &self.0;
+        write!(
+            f,
+            "{}{}{}",
+            Hex(&texts.tag),
+            Hex(&texts.descriptor),
+            Hex(&[texts.day, texts.month, texts.year])
+        )
+    }
+}
+
+pub(crate) fn put_texts(response: TagDescriptorDate, out: &mut Output) -> fmt::Result {
+    let read = match response.verdict {
+        PayloadVerdict::Carried => Ok(Texts(response)),
+        PayloadVerdict::Refused(refusal) => Err(refusal),
+    };
+    write!(out, "{}", Told(read))
+}
+
+pub(crate) fn read_identity(mut given: Given, out: &mut Output) -> Answered {
+    put_identity(DeviceIdentity::decode(given.rest()), out)?;
+    Ok(())
+}
+
+pub(crate) fn read_device(mut given: Given, out: &mut Output) -> Answered {
+    put_identity(read_device_id::decode_data(given.rest()), out)?;
+    Ok(())
+}
+
+pub(crate) fn read_tagged(mut given: Given, out: &mut Output) -> Answered {
+    put_identity(read_unique_id_by_tag::decode_data(given.rest()), out)?;
+    Ok(())
+}
+
+pub(crate) fn read_variables(mode: Mode, mut given: Given, out: &mut Output) -> Answered {
+    put_variables(read_device_vars::decode_data(mode, given.rest()), out)?;
+    Ok(())
+}
+
+pub(crate) fn read_tag(mode: Mode, mut given: Given, out: &mut Output) -> Answered {
+    let packed = given.array()?;
+    given.end()?;
+    let tag = read_unique_id_by_tag::decode_tag(mode, packed);
+    write!(out, "{}", Hex(&tag))?;
+    Ok(())
+}
+
+pub(crate) fn read_texts(mode: Mode, mut given: Given, out: &mut Output) -> Answered {
+    put_texts(
+        write_tag_descriptor_date::decode_data(mode, given.rest()),
+        out,
+    )?;
+    Ok(())
+}
+
+pub(crate) fn read_stored(mut given: Given, out: &mut Output) -> Answered {
+    let mode = given.mode()?;
+    put_texts(
+        read_tag_descriptor_date::decode_data(mode, given.rest()),
+        out,
+    )?;
+    Ok(())
 }

@@ -1,11 +1,10 @@
 // Requests as a device reads them, letter Q: document 02, 1/12. From a whole frame, as callers do, or from its
 // parts.
-use crate::bytes::{byte_at, rest};
-use crate::choices::{frame_type_of, mode_of};
+use crate::given::{Command, Given, NoCase};
+use crate::output::{Answered, Output};
 use crate::payloads::put_verdict;
-use crate::readers::put_date;
-use crate::shape::{IN_PARTS, TYPED_HEAD};
-use crate::text::{OUT_SIZE, put_bytes, put_marked, put_part, put_refusal};
+use crate::readers::put_texts;
+use crate::shown::{Hex, Told};
 use commands::read_device_vars::ReadDeviceVarsRequest;
 use commands::read_unique_id_by_tag::ReadUniqueIdByTagRequest;
 use commands::{
@@ -13,89 +12,96 @@ use commands::{
     write_tag_descriptor_date,
 };
 use framing::{Frame, PayloadVerdict};
-use octets::{copy_into, has_bit};
-use types::consts::MAX_DATA_LENGTH;
+use std::fmt;
+use std::fmt::Write;
 use types::{Address, FrameType, MasterRole};
 
-fn put_codes(request: ReadDeviceVarsRequest, out: &mut [u8; OUT_SIZE], at: usize) -> usize {
-    let verdict = request.verdict;
-    if let PayloadVerdict::Refused(refusal) = verdict {
-        return put_refusal(refusal, out, at);
+#[derive(Drop)]
+struct Codes(ReadDeviceVarsRequest);
+
+impl fmt::Display for Codes {
+    fn fmt<W: fmt::Write>(&self, f: &mut fmt::Formatter<W>) -> fmt::Result {
+        let count = self.0.count;
+        write!(f, "{count} ")?;
+        for code in self.0.codes.iter().take(count as usize) {
+            write!(f, "{code:02X}")?;
+        }
+        Ok(())
     }
-    let codes = request.codes;
-    let count = request.count as usize;
-    let next = put_marked(count, b' ', out, at);
-    put_part(&codes, 0, count, out, next)
 }
 
-fn put_tag(request: ReadUniqueIdByTagRequest, out: &mut [u8; OUT_SIZE], at: usize) -> usize {
-    let verdict = request.verdict;
-    if let PayloadVerdict::Refused(refusal) = verdict {
-        return put_refusal(refusal, out, at);
-    }
-    let tag = request.tag;
-    put_bytes(&tag, out, at)
+fn put_codes(request: ReadDeviceVarsRequest, out: &mut Output) -> fmt::Result {
+    let read = match request.verdict {
+        PayloadVerdict::Carried => Ok(Codes(request)),
+        PayloadVerdict::Refused(refusal) => Err(refusal),
+    };
+    write!(out, "{}", Told(read))
 }
 
-// The reader is the number of its command, whatever the frame's command is.
-fn put_whole(reader: u8, mode: Mode, frame: Frame, out: &mut [u8; OUT_SIZE], at: usize) -> usize {
+fn put_tag(request: ReadUniqueIdByTagRequest, out: &mut Output) -> fmt::Result {
+    let read = match request.verdict {
+        PayloadVerdict::Carried => Ok(Hex(&request.tag)),
+        PayloadVerdict::Refused(refusal) => Err(refusal),
+    };
+    write!(out, "{}", Told(read))
+}
+
+// The reader is that of its own command, whatever the frame's command is.
+fn put_whole(reader: Command, mode: Mode, frame: Frame, out: &mut Output) -> fmt::Result {
     match reader {
-        0 => put_verdict(read_device_id::read_request(frame), out, at),
-        9 => put_codes(read_device_vars::read_request(frame), out, at),
-        11 => put_tag(read_unique_id_by_tag::read_request(mode, frame), out, at),
-        13 => put_verdict(read_tag_descriptor_date::read_request(frame), out, at),
-        _ => put_date(
-            write_tag_descriptor_date::read_request(mode, frame),
-            out,
-            at,
-        ),
+        Command::ReadDeviceId => put_verdict(read_device_id::read_request(frame), out),
+        Command::ReadDeviceVars => put_codes(read_device_vars::read_request(frame), out),
+        Command::ReadUniqueIdByTag => {
+            put_tag(read_unique_id_by_tag::read_request(mode, frame), out)
+        }
+        Command::ReadTagDescriptorDate => {
+            put_verdict(read_tag_descriptor_date::read_request(frame), out)
+        }
+        Command::WriteTagDescriptorDate => {
+            put_texts(write_tag_descriptor_date::read_request(mode, frame), out)
+        }
     }
 }
 
 // The same of the parts of a frame.
 fn put_parts(
-    reader: u8,
+    reader: Command,
     mode: Mode,
     frame_type: FrameType,
     command: u8,
     data: &[u8],
-    out: &mut [u8; OUT_SIZE],
-    at: usize,
-) -> usize {
+    out: &mut Output,
+) -> fmt::Result {
     match reader {
-        0 => put_verdict(
-            read_device_id::read_request_frame(frame_type, command),
-            out,
-            at,
-        ),
-        9 => put_codes(
-            read_device_vars::read_request_frame(frame_type, command, data),
-            out,
-            at,
-        ),
-        11 => put_tag(
-            read_unique_id_by_tag::read_request_frame(mode, frame_type, command, data),
-            out,
-            at,
-        ),
-        13 => put_verdict(
-            read_tag_descriptor_date::read_request_frame(frame_type, command),
-            out,
-            at,
-        ),
-        _ => put_date(
-            write_tag_descriptor_date::read_request_frame(mode, frame_type, command, data),
-            out,
-            at,
-        ),
+        Command::ReadDeviceId => {
+            put_verdict(read_device_id::read_request_frame(frame_type, command), out)
+        }
+        Command::ReadDeviceVars => {
+            let read = read_device_vars::read_request_frame(frame_type, command, data);
+            put_codes(read, out)
+        }
+        Command::ReadUniqueIdByTag => {
+            let read = read_unique_id_by_tag::read_request_frame(mode, frame_type, command, data);
+            put_tag(read, out)
+        }
+        Command::ReadTagDescriptorDate => {
+            let read = read_tag_descriptor_date::read_request_frame(frame_type, command);
+            put_verdict(read, out)
+        }
+        Command::WriteTagDescriptorDate => {
+            let read = write_tag_descriptor_date::read_request_frame(
+                mode, frame_type, command, data,
+            );
+            put_texts(read, out)
+        }
     }
 }
 
-// No reader looks at the address, so it is always the same. That the data fit is part of a case's shape.
-fn frame_of(frame_type: FrameType, command: u8, data: &[u8]) -> Frame {
-    let mut padded = [0u8; MAX_DATA_LENGTH];
-    copy_into(data, &mut padded, 0);
-    Frame {
+// No reader looks at the address, so it is always the same. A whole frame holds no more data than the line
+// allows; its parts may.
+fn read_frame(frame_type: FrameType, command: u8, given: &mut Given) -> Result<Frame, NoCase> {
+    let length = u8::try_from(given.len()).or(Err(NoCase))?;
+    Ok(Frame {
         frame_type,
         address: Address::Short {
             master: MasterRole::Primary,
@@ -103,21 +109,27 @@ fn frame_of(frame_type: FrameType, command: u8, data: &[u8]) -> Frame {
             poll_address: 0,
         },
         command,
-        data: padded,
-        length: (data.len() % 256) as u8,
-    }
+        data: given.padded()?,
+        length,
+    })
 }
 
-// Bit 0 of the first byte is the mode, and bit 1 says that the frame is handed over in parts.
-pub(crate) fn read_request(bytes: &[u8], out: &mut [u8; OUT_SIZE], at: usize) -> usize {
-    let how = byte_at(bytes, 0);
-    let reader = byte_at(bytes, 1);
-    let mode = mode_of(has_bit(how, 0));
-    let frame_type = frame_type_of(byte_at(bytes, 2));
-    let command = byte_at(bytes, 3);
-    let data = rest(bytes, TYPED_HEAD);
-    if has_bit(how, IN_PARTS) {
-        return put_parts(reader, mode, frame_type, command, data, out, at);
+pub(crate) fn read_request(mut given: Given, out: &mut Output) -> Answered {
+    let (mode, in_parts) = match given.byte()? {
+        0 => (Mode::Crate, false),
+        1 => (Mode::Standard, false),
+        2 => (Mode::Crate, true),
+        3 => (Mode::Standard, true),
+        _ => return Err(NoCase.into()),
+    };
+    let reader = given.command()?;
+    let frame_type = given.frame_type()?;
+    let command = given.byte()?;
+    if in_parts {
+        put_parts(reader, mode, frame_type, command, given.rest(), out)?;
+    } else {
+        let frame = read_frame(frame_type, command, &mut given)?;
+        put_whole(reader, mode, frame, out)?;
     }
-    put_whole(reader, mode, frame_of(frame_type, command, data), out, at)
+    Ok(())
 }

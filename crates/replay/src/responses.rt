@@ -1,116 +1,156 @@
 // Whole responses as a device writes them, letter R: document 02, 1/12.
-use crate::bytes::{byte_at, eight_in, rest, sixteen_in, u32_in};
-use crate::choices::mode_of;
-use crate::shape::{RESPONSE_HEAD, VARIABLES_HEAD};
+use crate::given::{Command, Given, NoCase};
+use crate::output::{Answered, Output};
+use crate::writers::put_written;
 use commands::read_device_vars::{DeviceVariable, MAX_DEVICE_VARS};
 use commands::{
-    DeviceIdentity, read_device_id, read_device_vars, read_tag_descriptor_date,
+    DeviceIdentity, Mode, read_device_id, read_device_vars, read_tag_descriptor_date,
     read_unique_id_by_tag, value_of, write_tag_descriptor_date,
 };
-use octets::decode_u16_be;
-use refusal::Refusal;
+use response::{DESCRIPTOR_LENGTH, TAG_LENGTH};
 
-fn identity_in(bytes: &[u8]) -> DeviceIdentity {
-    DeviceIdentity {
-        expansion_code: byte_at(bytes, 0),
-        expanded_device_type: decode_u16_be(byte_at(bytes, 1), byte_at(bytes, 2)),
-        min_preamble_count: byte_at(bytes, 3),
-        hart_revision: byte_at(bytes, 4),
-        device_revision: byte_at(bytes, 5),
-        software_revision: byte_at(bytes, 6),
-        hardware_revision: byte_at(bytes, 7),
-        physical_signaling: byte_at(bytes, 8),
-        flags: byte_at(bytes, 9),
-        device_id: u32_in(rest(bytes, 10)),
-    }
+fn read_identity(given: &mut Given) -> Result<DeviceIdentity, NoCase> {
+    let expansion_code = given.byte()?;
+    let expanded_device_type = given.u16()?;
+    let [
+        min_preamble_count,
+        hart_revision,
+        device_revision,
+        software_revision,
+    ] = given.array::<4>()?;
+    let [hardware_revision, physical_signaling, flags] = given.array::<3>()?;
+    let device_id = given.u32()?;
+    given.end()?;
+    Ok(DeviceIdentity {
+        expansion_code,
+        expanded_device_type,
+        min_preamble_count,
+        hart_revision,
+        device_revision,
+        software_revision,
+        hardware_revision,
+        physical_signaling,
+        flags,
+        device_id,
+    })
 }
 
-fn variable_in(bytes: &[u8]) -> DeviceVariable {
-    let bits = u32_in(rest(bytes, 3));
-    DeviceVariable {
-        device_var_code: byte_at(bytes, 0),
-        classification: byte_at(bytes, 1),
-        unit: byte_at(bytes, 2),
+fn read_variable(given: &mut Given) -> Result<DeviceVariable, NoCase> {
+    let [device_var_code, classification, unit] = given.array::<3>()?;
+    let bits = given.u32()?;
+    Ok(DeviceVariable {
+        device_var_code,
+        classification,
+        unit,
         value: value_of(bits),
         bits,
-        status: byte_at(bytes, 7),
-    }
+        status: given.byte()?,
+    })
 }
 
 // Behind the groups that there are, the variables are of zeros.
-fn variables_in(groups: &[u8]) -> [DeviceVariable; MAX_DEVICE_VARS] {
-    [
-        variable_in(groups),
-        variable_in(rest(groups, 8)),
-        variable_in(rest(groups, 16)),
-        variable_in(rest(groups, 24)),
-        variable_in(rest(groups, 32)),
-        variable_in(rest(groups, 40)),
-        variable_in(rest(groups, 48)),
-        variable_in(rest(groups, 56)),
-    ]
-}
-
-fn write_identity(
-    command: u8,
-    first: u8,
-    second: u8,
-    bytes: &[u8],
-    buffer: &mut [u8],
-) -> Result<usize, Refusal> {
-    let identity = identity_in(rest(bytes, RESPONSE_HEAD));
-    if command == 0 {
-        return read_device_id::encode_response(first, second, identity, buffer);
+fn read_variables(given: &mut Given) -> Result<[DeviceVariable; MAX_DEVICE_VARS], NoCase> {
+    let mut variables = [DeviceVariable {
+        device_var_code: 0,
+        classification: 0,
+        unit: 0,
+        value: value_of(0),
+        bits: 0,
+        status: 0,
+    }; MAX_DEVICE_VARS];
+    for variable in variables.iter_mut() {
+        if !given.is_empty() {
+            *variable = read_variable(given)?;
+        }
     }
-    read_unique_id_by_tag::encode_response(first, second, identity, buffer)
+    given.end()?;
+    Ok(variables)
 }
 
-fn write_variables(
-    first: u8,
-    second: u8,
-    bytes: &[u8],
-    buffer: &mut [u8],
-) -> Result<usize, Refusal> {
-    read_device_vars::encode_response(
-        first,
-        second,
-        byte_at(bytes, 5),
-        variables_in(rest(bytes, VARIABLES_HEAD)),
-        byte_at(bytes, 6),
-        buffer,
-    )
+// A tag, a descriptor and a date.
+#[derive(Drop)]
+struct Texts {
+    mode: Mode,
+    tag: [u8; TAG_LENGTH],
+    descriptor: [u8; DESCRIPTOR_LENGTH],
+    date: [u8; 3],
 }
 
-fn write_texts(
-    command: u8,
-    first: u8,
-    second: u8,
-    bytes: &[u8],
-    buffer: &mut [u8],
-) -> Result<usize, Refusal> {
-    let mode = mode_of(byte_at(bytes, 5) == 1);
-    let tag = eight_in(rest(bytes, 6));
-    let descriptor = sixteen_in(rest(bytes, 14));
-    let day = byte_at(bytes, 30);
-    let month = byte_at(bytes, 31);
-    let year = byte_at(bytes, 32);
-    if command == 13 {
-        return read_tag_descriptor_date::encode_response(
-            mode, first, second, tag, descriptor, day, month, year, buffer,
-        );
-    }
-    write_tag_descriptor_date::encode_response(
-        mode, first, second, tag, descriptor, day, month, year, buffer,
-    )
+fn read_texts(given: &mut Given) -> Result<Texts, NoCase> {
+    let texts = Texts {
+        mode: given.mode()?,
+        tag: given.array()?,
+        descriptor: given.array()?,
+        date: given.array()?,
+    };
+    given.end()?;
+    Ok(texts)
 }
 
-pub(crate) fn write_answer(bytes: &[u8], buffer: &mut [u8]) -> Result<usize, Refusal> {
-    let command = byte_at(bytes, 0);
-    let first = byte_at(bytes, 3);
-    let second = byte_at(bytes, 4);
-    match command {
-        0 | 11 => write_identity(command, first, second, bytes, buffer),
-        9 => write_variables(first, second, bytes, buffer),
-        _ => write_texts(command, first, second, bytes, buffer),
-    }
+pub(crate) fn write_response(mut given: Given, out: &mut Output) -> Answered {
+    let command = given.command()?;
+    let mut buffer = given.room()?;
+    let [first, second] = given.array::<2>()?;
+    let written = match command {
+        Command::ReadDeviceId => {
+            let identity = read_identity(&mut given)?;
+            read_device_id::encode_response(first, second, identity, buffer.lent())
+        }
+        Command::ReadUniqueIdByTag => {
+            let identity = read_identity(&mut given)?;
+            read_unique_id_by_tag::encode_response(first, second, identity, buffer.lent())
+        }
+        Command::ReadDeviceVars => {
+            let [extended, count] = given.array::<2>()?;
+            let variables = read_variables(&mut given)?;
+            read_device_vars::encode_response(
+                first,
+                second,
+                extended,
+                variables,
+                count,
+                buffer.lent(),
+            )
+        }
+        Command::ReadTagDescriptorDate => {
+            let Texts {
+                mode,
+                tag,
+                descriptor,
+                date: [day, month, year],
+            } = read_texts(&mut given)?;
+            read_tag_descriptor_date::encode_response(
+                mode,
+                first,
+                second,
+                tag,
+                descriptor,
+                day,
+                month,
+                year,
+                buffer.lent(),
+            )
+        }
+        Command::WriteTagDescriptorDate => {
+            let Texts {
+                mode,
+                tag,
+                descriptor,
+                date: [day, month, year],
+            } = read_texts(&mut given)?;
+            write_tag_descriptor_date::encode_response(
+                mode,
+                first,
+                second,
+                tag,
+                descriptor,
+                day,
+                month,
+                year,
+                buffer.lent(),
+            )
+        }
+    };
+    put_written(written, buffer, out)?;
+    Ok(())
 }

@@ -1,12 +1,9 @@
-// The calls that write into a lent buffer, letters w, e, p, P, u, U, q, t, T, d, D, O, R, W and F: what the
-// case says of the buffer, the call, and what it left there.
-use crate::addresses::address_in;
-use crate::bytes::{byte_at, eight_in, front, rest, sixteen_in, u16_in};
-use crate::choices::{frame_type_of, is_capital, mode_of};
-use crate::fields::{put_in_turn, write_whole};
-use crate::responses::write_answer;
-use crate::shape::{FRAME_HEAD, ROOM_MAX};
-use crate::text::{OUT_SIZE, put_buffer, put_written};
+// The calls that write into a lent buffer, letters w, e, p, P, u, U, q, t, T, d, D and O.
+use crate::addresses::read_address;
+use crate::buffer::Buffer;
+use crate::given::{Command, Given, NoCase};
+use crate::output::{Answered, Output};
+use crate::shown::Told;
 use commands::{
     Mode, read_device_id, read_device_vars, read_tag_descriptor_date, read_unique_id_by_tag,
     write_tag_descriptor_date,
@@ -14,131 +11,104 @@ use commands::{
 use framing::encode_frame;
 use packed_string::{decode_packed, decode_standard, encode_packed, encode_standard};
 use refusal::Refusal;
-use types::Address;
+use std::fmt;
+use std::fmt::Write;
 
-// How many bytes the case's buffer has.
-fn room_in(letter: u8, bytes: &[u8]) -> usize {
-    match letter {
-        b'w' => byte_at(bytes, 7) as usize,
-        b'e' => u16_in(rest(bytes, 10)),
-        b'p' | b'P' | b'u' | b'U' | b'W' | b'F' => u16_in(bytes),
-        b'O' | b'R' => u16_in(rest(bytes, 1)),
-        _ => byte_at(bytes, 0) as usize,
-    }
+// What a call told, and what it left in its buffer.
+pub(crate) fn put_written(
+    written: Result<usize, Refusal>,
+    buffer: Buffer,
+    out: &mut Output,
+) -> fmt::Result {
+    write!(out, "{} {}", Told(written), buffer)
 }
 
-// A buffer before a call: a byte that the call leaves alone can be told by its place.
-pub(crate) fn fill_pattern(buffer: &mut [u8]) {
-    let mut i = 0;
-    while i < buffer.len() {
-        buffer[i] = 0xA0 + (i % 16) as u8;
-        i += 1;
-    }
+pub(crate) fn write_address(mut given: Given, out: &mut Output) -> Answered {
+    let address = read_address(&mut given)?;
+    let mut buffer = given.short_room()?;
+    given.end()?;
+    put_written(address.encode(buffer.lent()), buffer, out)?;
+    Ok(())
 }
 
-fn write_address(address: Address, buffer: &mut [u8]) -> Result<usize, Refusal> {
-    address.encode(buffer)
+pub(crate) fn write_frame(mut given: Given, out: &mut Output) -> Answered {
+    let frame_type = given.frame_type()?;
+    let address = read_address(&mut given)?;
+    let [command, preambles] = given.array::<2>()?;
+    let mut buffer = given.room()?;
+    let data = given.rest();
+    let written = encode_frame(frame_type, address, command, data, preambles, buffer.lent());
+    put_written(written, buffer, out)?;
+    Ok(())
 }
 
-fn write_frame(bytes: &[u8], buffer: &mut [u8]) -> Result<usize, Refusal> {
-    let frame_type = frame_type_of(byte_at(bytes, 0));
-    let address = address_in(rest(bytes, 1));
-    encode_frame(
-        frame_type,
-        address,
-        byte_at(bytes, 8),
-        rest(bytes, FRAME_HEAD),
-        byte_at(bytes, 9),
-        buffer,
-    )
+pub(crate) fn write_packed(mode: Mode, mut given: Given, out: &mut Output) -> Answered {
+    let mut buffer = given.room()?;
+    let text = given.rest();
+    let written = match mode {
+        Mode::Crate => Ok(encode_packed(text, buffer.lent())),
+        Mode::Standard => encode_standard(text, buffer.lent()),
+    };
+    put_written(written, buffer, out)?;
+    Ok(())
 }
 
-fn write_packed(mode: Mode, bytes: &[u8], buffer: &mut [u8]) -> Result<usize, Refusal> {
-    match mode {
-        Mode::Crate => Ok(encode_packed(rest(bytes, 2), buffer)),
-        Mode::Standard => encode_standard(rest(bytes, 2), buffer),
-    }
+pub(crate) fn write_unpacked(mode: Mode, mut given: Given, out: &mut Output) -> Answered {
+    let mut buffer = given.room()?;
+    let packed = given.rest();
+    let written = match mode {
+        Mode::Crate => Ok(decode_packed(packed, buffer.lent())),
+        Mode::Standard => decode_standard(packed, buffer.lent()),
+    };
+    put_written(written, buffer, out)?;
+    Ok(())
 }
 
-fn write_unpacked(mode: Mode, bytes: &[u8], buffer: &mut [u8]) -> Result<usize, Refusal> {
-    match mode {
-        Mode::Crate => Ok(decode_packed(rest(bytes, 2), buffer)),
-        Mode::Standard => decode_standard(rest(bytes, 2), buffer),
-    }
+pub(crate) fn write_codes(mut given: Given, out: &mut Output) -> Answered {
+    let mut buffer = given.short_room()?;
+    let written = read_device_vars::encode_data(given.rest(), buffer.lent());
+    put_written(written, buffer, out)?;
+    Ok(())
 }
 
-fn write_tag(mode: Mode, bytes: &[u8], buffer: &mut [u8]) -> Result<usize, Refusal> {
-    read_unique_id_by_tag::encode_data(mode, eight_in(rest(bytes, 1)), buffer)
+pub(crate) fn write_tag(mode: Mode, mut given: Given, out: &mut Output) -> Answered {
+    let mut buffer = given.short_room()?;
+    let tag = given.array()?;
+    given.end()?;
+    let written = read_unique_id_by_tag::encode_data(mode, tag, buffer.lent());
+    put_written(written, buffer, out)?;
+    Ok(())
 }
 
-fn write_date(mode: Mode, bytes: &[u8], buffer: &mut [u8]) -> Result<usize, Refusal> {
-    write_tag_descriptor_date::encode_data(
+pub(crate) fn write_texts(mode: Mode, mut given: Given, out: &mut Output) -> Answered {
+    let mut buffer = given.short_room()?;
+    let tag = given.array()?;
+    let descriptor = given.array()?;
+    let [day, month, year] = given.array::<3>()?;
+    given.end()?;
+    let written = write_tag_descriptor_date::encode_data(
         mode,
-        eight_in(rest(bytes, 1)),
-        sixteen_in(rest(bytes, 9)),
-        byte_at(bytes, 25),
-        byte_at(bytes, 26),
-        byte_at(bytes, 27),
-        buffer,
-    )
+        tag,
+        descriptor,
+        day,
+        month,
+        year,
+        buffer.lent(),
+    );
+    put_written(written, buffer, out)?;
+    Ok(())
 }
 
-// The request of command 0 or 13.
-fn write_no_data(command: u8, buffer: &mut [u8]) -> Result<usize, Refusal> {
-    if command == 0 {
-        return read_device_id::encode_data(buffer);
-    }
-    read_tag_descriptor_date::encode_data(buffer)
-}
-
-fn write(letter: u8, mode: Mode, bytes: &[u8], buffer: &mut [u8]) -> Result<usize, Refusal> {
-    match letter {
-        b'w' => write_address(address_in(bytes), buffer),
-        b'e' => write_frame(bytes, buffer),
-        b'p' | b'P' => write_packed(mode, bytes, buffer),
-        b'u' | b'U' => write_unpacked(mode, bytes, buffer),
-        b'q' => read_device_vars::encode_data(rest(bytes, 1), buffer),
-        b't' | b'T' => write_tag(mode, bytes, buffer),
-        b'O' => write_no_data(byte_at(bytes, 0), buffer),
-        b'R' => write_answer(bytes, buffer),
-        b'F' => write_whole(bytes, buffer),
-        _ => write_date(mode, bytes, buffer),
-    }
-}
-
-fn put_outcome(
-    letter: u8,
-    bytes: &[u8],
-    buffer: &mut [u8],
-    out: &mut [u8; OUT_SIZE],
-    at: usize,
-) -> usize {
-    if letter == b'W' {
-        return put_in_turn(bytes, buffer, out, at);
-    }
-    let written = write(letter, mode_of(is_capital(letter)), bytes, buffer);
-    put_written(written, b' ', out, at)
-}
-
-fn answer_into(
-    letter: u8,
-    bytes: &[u8],
-    buffer: &mut [u8],
-    out: &mut [u8; OUT_SIZE],
-    at: usize,
-) -> usize {
-    fill_pattern(buffer);
-    let next = put_outcome(letter, bytes, buffer, out, at);
-    put_buffer(buffer, out, next)
-}
-
-pub(crate) fn answer_writing(
-    letter: u8,
-    bytes: &[u8],
-    out: &mut [u8; OUT_SIZE],
-    at: usize,
-) -> usize {
-    let mut buffer = [0u8; ROOM_MAX];
-    let room = room_in(letter, bytes);
-    answer_into(letter, bytes, front(&mut buffer, room), out, at)
+// The two requests that carry no data.
+pub(crate) fn write_no_data(mut given: Given, out: &mut Output) -> Answered {
+    let command = given.command()?;
+    let mut buffer = given.room()?;
+    given.end()?;
+    let written = match command {
+        Command::ReadDeviceId => read_device_id::encode_data(buffer.lent()),
+        Command::ReadTagDescriptorDate => read_tag_descriptor_date::encode_data(buffer.lent()),
+        _ => return Err(NoCase.into()),
+    };
+    put_written(written, buffer, out)?;
+    Ok(())
 }

@@ -1,9 +1,0 @@
--- The loop only counts up.
-use Rattle.std.proofs.Common.{◌-◌}
-use Rattle.replay.proofs.fields.are_fields.Given as goal
-
-abbrev pub invariant-loop-i : goal.invariant-loop-i
-invariant-loop-i l = Unit {0}
-
-abbrev pub decreases-loop-i : goal.decreases-loop-i
-decreases-loop-i l = l.most - l.i

@@ -1,6 +1,0 @@
--- The loop only counts up.
-use Rattle.std.proofs.Common.{◌-◌, length}
-use Rattle.replay.proofs.writers.fill_pattern.Given as goal
-
-abbrev pub decreases-loop-i : goal.decreases-loop-i
-decreases-loop-i l = length l.initial.buffer - l.i
