@@ -1,7 +1,7 @@
--- What the device says along a run is what the run's cut has it say, and goes on from run to run.
+-- What the device says along a run is what the run's cut has it say.
 use Prim.Native.Nat.{ℕ}
-use mathlib.Core.Path.{◌≡◌, refl, sym, ap, ◌∙◌}
-use mathlib.Core.List.{List, [], ◌∷◌, ◌++◌, append_assoc}
+use mathlib.Core.Path.{◌≡◌, refl, ap, ◌∙◌}
+use mathlib.Core.List.{List, [], ◌∷◌, ◌++◌}
 use Rattle.line.specs.Pieces.{Bytes}
 use Rattle.line.specs.Events.{gather}
 use Rattle.line.specs.Runs.{says}
@@ -12,17 +12,8 @@ use Rattle.line.specs.declared.frame.Frame.{Frame}
 use Rattle.line.proofs.Machines.{says-append}
 use Rattle.framing.specs.Feed.{fresh_decoder}
 use Rattle.framing.specs.Demand.{decoder_hears}
-use Rattle.framing.specs.declared.decode.Decoder.{Decoder}
 use Rattle.framing.proofs.Demand.{answered}
 use Rattle.device.specs.Conversation.{answer_bytes, answer_heard, listening, answers_along, Conversed}
-
-heard-append : (hs js : List Heard) → gather answer_heard (hs ++ js) ≡ gather answer_heard hs ++ gather answer_heard js
-heard-append [] js = refl
-heard-append (h ∷ hs) js = ap (λ (bs : List ℕ). answer_heard h ++ bs) (heard-append hs js) ∙ sym (append_assoc (answer_heard h) (gather answer_heard hs) (gather answer_heard js))
-
-pub answers-append : (d : Decoder) (bs cs : List ℕ) → answers_along d (bs ++ cs) ≡ answers_along d bs ++ answers_along (listening d bs) cs
-answers-append d bs cs =
-    ap (gather answer_heard) (says-append decoder_hears d bs cs) ∙ heard-append (says decoder_hears d bs) (says decoder_hears (listening d bs) cs)
 
 -- only frames are answered
 frame_answered : (h : Heard) (bs : List ℕ) (fs : List Frame) → bs ≡ gather answer_bytes fs → answer_heard h ++ bs ≡ gather answer_bytes (frame_heard h ++ fs)

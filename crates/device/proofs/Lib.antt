@@ -6,6 +6,7 @@ pub mod Answers
 pub mod Echo
 pub mod Room
 pub mod Along
+pub mod Runs
 pub mod Conversation
 pub mod Small
 pub mod Overheard

@@ -5,31 +5,34 @@
 
 ghost use Rattle.std.specs.Prelude.{◌≤◌, length};
 
-mod words;
+mod told;
 
-use commands::read_device_vars::{DeviceVariable, MAX_DEVICE_VARS, ReadDeviceVarsResponse};
+use commands::read_device_vars::ReadDeviceVarsResponse;
 use commands::{Mode, Reading, read_device_vars, read_unique_id_by_tag};
 use framing::{Decoder, Frame, PayloadVerdict, encode_frame};
 use refusal::Refusal;
-use std::io::Read;
+use std::io::{self, Read};
+use told::{Bytes, Refused};
 use types::consts::MIN_PREAMBLE_COUNT;
 use types::consts::commands::READ_DEVICE_VARS_WITH_STATUS;
 use types::{Address, FrameType, MasterRole};
-use words::{first, print, print_bytes, print_number, print_refusal};
 
-// A call that writes gets a buffer and tells how many bytes it wrote to its front, or why it wrote none.
-fn tell_written(rt: &impl Print, written: Result<usize, Refusal>, buffer: &[u8]) {
+// A call that writes gets a buffer and tells how many bytes it wrote to its front, or why it wrote none. That a
+// slice lies within the buffer is proved: of `n` no more is taken than there is.
+fn tell_written(
+    rt: &impl Print,
+    name: &str,
+    written: Result<usize, Refusal>,
+    buffer: &[u8],
+) -> io::Result<()> {
     match written {
-        Ok(n) => {
-            print_bytes(rt, first(buffer, n));
-            print(rt, b"\n");
-        }
-        Err(refusal) => print_refusal(rt, refusal),
+        Ok(n) => println!(rt; "{name}:{}", Bytes(&buffer[..n.min(buffer.len())])),
+        Err(refusal) => println!(rt; "{name}:{}", Refused(refusal)),
     }
 }
 
 // The request for variables 0 and 1 of one device: first the command's data, then the frame around them.
-fn ask(rt: &impl Print) {
+fn ask(rt: &impl Print) -> io::Result<()> {
     let address = Address::Long {
         master: MasterRole::Primary,
         burst: false,
@@ -39,103 +42,74 @@ fn ask(rt: &impl Print) {
     };
     let mut data = [0u8; 2];
     let mut buffer = [0u8; 32];
-    let _ = read_device_vars::encode_data(&[0, 1], &mut data);
-    let written = encode_frame(
-        FrameType::Request,
-        address,
-        READ_DEVICE_VARS_WITH_STATUS,
-        &data,
-        MIN_PREAMBLE_COUNT,
-        &mut buffer,
-    );
-    print(rt, b"request:");
-    tell_written(rt, written, &buffer);
+    let written = read_device_vars::encode_data(&[0, 1], &mut data).and_then(|_| {
+        encode_frame(
+            FrameType::Request,
+            address,
+            READ_DEVICE_VARS_WITH_STATUS,
+            &data,
+            MIN_PREAMBLE_COUNT,
+            &mut buffer,
+        )
+    });
+    tell_written(rt, "request", written, &buffer)
 }
 
 // What a value is worth. Good, poor and fixed carry the value, a float, for whoever calculates with it.
-fn tell_reading(rt: &impl Print, reading: Reading) {
+fn worth(reading: Reading) -> &'static str {
     match reading {
-        Reading::Good(_) => print(rt, b": good\n"),
-        Reading::Poor(_) => print(rt, b": poor\n"),
-        Reading::Fixed(_) => print(rt, b": fixed\n"),
-        Reading::Bad => print(rt, b": bad\n"),
-        Reading::Absent => print(rt, b": absent\n"),
+        Reading::Good(_) => "good",
+        Reading::Poor(_) => "poor",
+        Reading::Fixed(_) => "fixed",
+        Reading::Bad => "bad",
+        Reading::Absent => "absent",
     }
-}
-
-fn tell_variable(rt: &impl Print, variable: DeviceVariable) {
-    print(rt, b"  variable ");
-    print_number(rt, variable.device_var_code as usize);
-    tell_reading(rt, variable.reading());
 }
 
 // A response has room for eight variables, of which the first `count` were sent.
-fn tell_variables(rt: &impl Print, response: ReadDeviceVarsResponse) {
-    let variables = response.variables;
-    let count = response.count as usize;
-    let mut i: usize = 0;
-    while i < MAX_DEVICE_VARS {
-        if i >= count {
-            return;
-        }
-        tell_variable(rt, variables[i]);
-        i += 1;
+fn tell_variables(rt: &impl Print, response: &ReadDeviceVarsResponse) -> io::Result<()> {
+    for variable in response.variables.iter().take(response.count as usize) {
+        let code = variable.device_var_code;
+        println!(rt; "  variable {code}: {}", worth(variable.reading()))?;
     }
+    Ok(())
 }
 
 // The response that a frame carries in the mode of the HART documents. Whatever stands in its way, from the
 // frame's type to the device's own error codes, comes back as a refusal.
-fn tell_response(rt: &impl Print, frame: Frame) {
+fn tell_frame(rt: &impl Print, frame: Frame) -> io::Result<()> {
+    println!(rt;
+        "frame: command {}, bytes of data: {}",
+        frame.command, frame.length
+    )?;
     let response = read_device_vars::read_response(Mode::Standard, frame);
-    let verdict = response.verdict;
-    match verdict {
-        PayloadVerdict::Carried => tell_variables(rt, response),
-        PayloadVerdict::Refused(refusal) => {
-            print(rt, b"  no readings:");
-            print_refusal(rt, refusal);
-        }
+    match response.verdict {
+        PayloadVerdict::Carried => tell_variables(rt, &response),
+        PayloadVerdict::Refused(refusal) => println!(rt; "  no readings:{}", Refused(refusal)),
     }
 }
 
-fn tell_frame(rt: &impl Print, frame: Frame) {
-    print(rt, b"frame: command ");
-    print_number(rt, frame.command as usize);
-    print(rt, b", bytes of data: ");
-    print_number(rt, frame.length as usize);
-    print(rt, b"\n");
-    tell_response(rt, frame);
-}
-
-// At most bytes nothing is heard. Behind a frame or a refusal the decoder looks for the next frame.
-fn tell_heard(rt: &impl Print, heard: Result<Option<Frame>, Refusal>) {
-    match heard {
-        Ok(None) => {}
-        Ok(Some(frame)) => tell_frame(rt, frame),
-        Err(refusal) => {
-            print(rt, b"line:");
-            print_refusal(rt, refusal);
-        }
-    }
-}
-
-// A decoder is a value: a byte takes one, and gives the one for the next byte.
-fn listen(rt: &impl Print, line: &[u8]) {
+// A decoder is a value: a byte takes one, and gives the one for the next byte. At most bytes nothing is heard. Behind
+// a frame or a refusal the decoder looks for the next frame.
+fn listen(rt: &impl Print, line: &[u8]) -> io::Result<()> {
     let mut decoder = Decoder::new();
-    let mut i = 0;
-    while i < line.len() {
-        let fed = decoder.feed(line[i]);
-        tell_heard(rt, fed.heard);
+    for byte in line {
+        let fed = decoder.feed(*byte);
         decoder = fed.next;
-        i += 1;
+        match fed.heard {
+            Ok(None) => {}
+            Ok(Some(frame)) => tell_frame(rt, frame)?,
+            Err(refusal) => println!(rt; "line:{}", Refused(refusal))?,
+        }
     }
+    Ok(())
 }
 
 // The request of command 11. In the mode of the HART documents a small letter has no code.
-fn ask_by_tag(rt: &impl Print, tag: [u8; 8]) {
+fn ask_by_tag(rt: &impl Print, tag: [u8; 8]) -> io::Result<()> {
     let mut buffer = [0u8; 6];
     let written = read_unique_id_by_tag::encode_data(Mode::Standard, tag, &mut buffer);
-    print(rt, b"tag:");
-    tell_written(rt, written, &buffer);
+    tell_written(rt, "tag", written, &buffer)
 }
 
 // Reads until there is no room left, or no more to read.
@@ -146,17 +120,22 @@ fn read(from: &mut impl Read, line: &mut [u8]) -> usize
     while got < line.len() {
         match from.read(&mut line[got..]) {
             Ok(n) if n > 0 => got += n,
-            _ => return got,
+            _ => break,
         }
     }
     got
 }
 
-fn main(rt: HostRuntime) {
-    ask(&rt);
+fn converse(rt: &impl Print, from: &mut impl Read) -> io::Result<()> {
+    ask(rt)?;
     let mut line = [0u8; 4096];
-    let n = read(&mut rt.stdin(), &mut line);
-    listen(&rt, &line[..n]);
-    ask_by_tag(&rt, *b"TANK 7  ");
-    ask_by_tag(&rt, *b"TANk 7  ");
+    let n = read(from, &mut line);
+    listen(rt, &line[..n])?;
+    ask_by_tag(rt, *b"TANK 7  ")?;
+    ask_by_tag(rt, *b"TANk 7  ")
+}
+
+fn main(rt: HostRuntime) {
+    // No program here ends with a status of its own.
+    let _ = converse(&rt, &mut rt.stdin());
 }
