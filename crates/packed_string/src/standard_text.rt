@@ -9,6 +9,7 @@ use crate::text_groups::{pack, unpack};
 use refusal::Refusal;
 
 // Packs the whole text, or nothing.
+#[tactic(auto, unfolding(crate::specs::Standard::standard_packed))]
 pub fn encode_standard(src: &[u8], dst: &mut [u8]) -> Result<usize, Refusal>
     ensures { ends (reply_of result) dst.new ≡ standard_packed src.now dst.old }
 {
@@ -24,6 +25,7 @@ pub fn encode_standard(src: &[u8], dst: &mut [u8]) -> Result<usize, Refusal>
 }
 
 // Unpacks all the bytes, or none.
+#[tactic(auto, unfolding(crate::specs::Standard::standard_unpacked))]
 pub fn decode_standard(src: &[u8], dst: &mut [u8]) -> Result<usize, Refusal>
     ensures { ends (reply_of result) dst.new ≡ standard_unpacked src.now dst.old }
 {

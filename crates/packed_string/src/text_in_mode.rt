@@ -9,6 +9,7 @@ use crate::text_group::Mode;
 use crate::{decode_packed, encode_packed};
 use refusal::Refusal;
 
+#[tactic(auto, unfolding(crate::specs::Modes::packed_in))]
 pub fn encode_in(mode: Mode, src: &[u8], dst: &mut [u8]) -> Result<usize, Refusal>
     ensures { ends (reply_of result) dst.new ≡ packed_in mode src.now dst.old }
 {
@@ -18,6 +19,7 @@ pub fn encode_in(mode: Mode, src: &[u8], dst: &mut [u8]) -> Result<usize, Refusa
     }
 }
 
+#[tactic(auto, unfolding(crate::specs::Modes::unpacked_in))]
 pub fn decode_in(mode: Mode, src: &[u8], dst: &mut [u8]) -> Result<usize, Refusal>
     ensures { ends (reply_of result) dst.new ≡ unpacked_in mode src.now dst.old }
 {
@@ -28,6 +30,7 @@ pub fn decode_in(mode: Mode, src: &[u8], dst: &mut [u8]) -> Result<usize, Refusa
 }
 
 // The place of the first character that the mode has no code for, or the text's length.
+#[tactic(auto, unfolding(crate::specs::Modes::bad_in))]
 pub fn bad_place_in(mode: Mode, src: &[u8]) -> usize
     ensures { result ≡ bad_in mode src.now }
 {

@@ -1,4 +1,4 @@
--- Each refusal by its test, and the rest by what `pack` puts: where all groups fit, all of them.
+-- A character without a code by its place, and the rest by what `pack` puts: where all groups fit, all of them.
 use Prim.Native.Nat.{ℕ}
 use native.Mathlib.Omega.{arith}
 use mathlib.Core.Path.{◌≡◌, sym, ap, ◌∙◌}
@@ -9,12 +9,8 @@ use Rattle.packed_string.specs.declared.text_group.Mode.TheVariants.{Standard}
 use Rattle.packed_string.specs.Groups.{groups, packed, packed_count}
 use Rattle.packed_string.proofs.Groups.{packed_wrote}
 use Rattle.packed_string.proofs.BadPlace.{found_some, found_none}
-use Rattle.packed_string.proofs.StandardCalls.{standard_packs_no_room, standard_packs_bad, standard_packs}
+use Rattle.packed_string.proofs.StandardCalls.{standard_packs_bad, standard_packs}
 use Rattle.packed_string.proofs.standard_text.encode_standard.Goals as goal
-
-pub returns-then-dst-length : goal.returns-then-dst-length
-returns-then-dst-length c =
-    let a = c.args in sym (standard_packs_no_room a.src.now a.dst.now (omega arith))
 
 pub returns-in-Some : goal.returns-in-Some
 returns-in-Some c =
