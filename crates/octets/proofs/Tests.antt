@@ -1,19 +1,16 @@
 -- What two tests say together, and a test that came out both ways.
-use Prim.Native.Nat.{ℕ}
-use native.Mathlib.Omega.{arith}
-use mathlib.Core.Path.{◌≡◌, refl}
+use mathlib.Core.Path.{◌≡◌}
 use mathlib.Core.Bool.{Bool, true, false, ◌&&◌}
+use Rattle.std.proofs.lemmas.Bool as std
 
 pub and_first : (a b : Bool) → a && b ≡ true → a ≡ true
-and_first true b e = refl
-and_first false b e = e
-
-pub both_ways : {b : Bool} → b ≡ true → b ≡ false → ⊥
-both_ways p q = let z : ◌≡◌ {A = ℕ} 0 1 = cc in omega arith
+and_first a b e = (std.and_parts a b e).0
 
 pub and_second : (a b : Bool) → a && b ≡ true → b ≡ true
-and_second true b e = e
-and_second false b e = absurd (both_ways e refl)
+and_second a b e = (std.and_parts a b e).1
+
+pub both_ways : {b : Bool} → b ≡ true → b ≡ false → ⊥
+both_ways {b} p q = std.both_ways b q p
 
 -- not both hold, and the second does
 pub and_left : (a b : Bool) → b ≡ true → a && b ≡ false → a ≡ false

@@ -25,16 +25,17 @@ impl Digits {
     }
 }
 
-// With no zero in front.
+// With no zero in front. The loop ends by what is left of the number and not at a place, so no `for` over the
+// places says it plainer.
 pub fn decimal(number: u64) -> Digits
     ensures { result ≡ decimal_of number }
 {
     let mut text = [0u8; DECIMAL_ROOM];
-    let mut from: usize = LAST;
+    let mut from = LAST;
     let mut rest = number;
     while rest > 9 {
         text[from] = b'0' + (rest % 10) as u8;
-        rest = rest / 10;
+        rest /= 10;
         from -= 1;
     }
     text[from] = b'0' + rest as u8;

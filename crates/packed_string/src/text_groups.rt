@@ -38,7 +38,8 @@ fn unpacked_at(mode: Mode, src: &[u8], g: usize) -> [u8; 4]
     unpacked_group(mode, [src[base], src[base + 1], src[base + 2]])
 }
 
-// Packs as many whole groups of the text as fit and tells how many.
+// Packs as many whole groups of the text as fit and tells how many. One loop for this and `unpack` would call
+// an `Fn(usize) -> [u8; SIZE]`: of a bound that names a const parameter the borrow checker has no proof.
 pub(crate) fn pack(mode: Mode, src: &[u8], dst: &mut [u8]) -> usize
     ensures { (result ≡ packed_count src.now dst.old) × (dst.new ≡ put dst.old 0 (packed mode src.now (packed_count src.now dst.old))) }
 {
