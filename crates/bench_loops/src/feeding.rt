@@ -11,30 +11,27 @@ const FRAME: u64 = 17592186044416;
 const REFUSAL: u64 = 268435456;
 
 fn with_frame(sum: u64, command: u8, length: u8, middle: u8) -> u64 {
-    let more = FRAME + command as u64 + length as u64 + middle as u64;
-    std::num::wrapping_add_u64(sum, more)
+    sum.wrapping_add(FRAME + command as u64 + length as u64 + middle as u64)
 }
 
 fn with_heard(sum: u64, heard: Result<Option<Frame>, Refusal>) -> u64 {
     match heard {
         Ok(None) => sum,
         Ok(Some(frame)) => {
-            let place = frame.length as usize / 2;
-            with_frame(sum, frame.command, frame.length, frame.data[place])
+            let middle = frame.data[frame.length as usize / 2];
+            with_frame(sum, frame.command, frame.length, middle)
         }
-        Err(_) => std::num::wrapping_add_u64(sum, REFUSAL),
+        Err(_) => sum.wrapping_add(REFUSAL),
     }
 }
 
 pub(crate) fn by_value(run: &[u8]) -> u64 {
     let mut decoder = Decoder::new();
     let mut sum: u64 = 0;
-    let mut i: usize = 0;
-    while i < run.len() {
-        let fed = decoder.feed(run[i]);
+    for byte in run {
+        let fed = decoder.feed(*byte);
         sum = with_heard(sum, fed.heard);
         decoder = fed.next;
-        i += 1;
     }
     sum
 }
@@ -44,47 +41,26 @@ pub(crate) fn lent(run: &[u8], n: usize) -> u64 {
     with_heard(0, lent::listen(run, n))
 }
 
-#[derive(Drop)]
-struct Turned {
-    state: State,
-    sum: u64,
-}
-
-// One byte into a state that the caller keeps, over the bytes that it lends.
-fn turn(state: State, bytes: &mut [u8; ROOM], byte: u8, sum: u64) -> Turned {
-    let moved = step(state, bytes, byte);
-    let next = moved.state;
-    match moved.ended {
-        Ok(None) => Turned { state: next, sum },
-        Ok(Some(completed)) => {
-            let place = HEAD_ROOM + completed.length as usize / 2;
-            let middle = bytes[place];
-            *bytes = [0u8; ROOM];
-            Turned {
-                state: next,
-                sum: with_frame(sum, completed.command, completed.length, middle),
-            }
-        }
-        Err(_) => {
-            *bytes = [0u8; ROOM];
-            Turned {
-                state: next,
-                sum: std::num::wrapping_add_u64(sum, REFUSAL),
-            }
-        }
-    }
-}
-
+// The state and its bytes are the caller's, which clears the bytes behind each frame and each refusal.
 pub(crate) fn by_step(run: &[u8]) -> u64 {
     let mut state = State::Hunting;
     let mut bytes = [0u8; ROOM];
     let mut sum: u64 = 0;
-    let mut i: usize = 0;
-    while i < run.len() {
-        let turned = turn(state, &mut bytes, run[i], sum);
-        state = turned.state;
-        sum = turned.sum;
-        i += 1;
+    for byte in run {
+        let moved = step(state, &mut bytes, *byte);
+        state = moved.state;
+        match moved.ended {
+            Ok(None) => {}
+            Ok(Some(completed)) => {
+                let middle = bytes[HEAD_ROOM + completed.length as usize / 2];
+                sum = with_frame(sum, completed.command, completed.length, middle);
+                bytes = [0u8; ROOM];
+            }
+            Err(_) => {
+                sum = sum.wrapping_add(REFUSAL);
+                bytes = [0u8; ROOM];
+            }
+        }
     }
     sum
 }

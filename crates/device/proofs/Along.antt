@@ -9,11 +9,10 @@ use Rattle.std.specs.Prelude.{Some, None, Ok, Err}
 use Rattle.line.specs.machine.Frames.{Heard}
 use Rattle.line.specs.machine.Demand.{frame_heard, frames_heard}
 use Rattle.line.specs.declared.frame.Frame.{Frame}
-use Rattle.line.proofs.Machines.{says-append}
 use Rattle.framing.specs.Feed.{fresh_decoder}
 use Rattle.framing.specs.Demand.{decoder_hears}
 use Rattle.framing.proofs.Demand.{answered}
-use Rattle.device.specs.Conversation.{answer_bytes, answer_heard, listening, answers_along, Conversed}
+use Rattle.device.specs.Conversation.{answer_bytes, answer_heard, Conversed}
 
 -- only frames are answered
 frame_answered : (h : Heard) (bs : List ℕ) (fs : List Frame) → bs ≡ gather answer_bytes fs → answer_heard h ++ bs ≡ gather answer_bytes (frame_heard h ++ fs)
