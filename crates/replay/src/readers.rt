@@ -5,7 +5,7 @@ use crate::output::{Answered, Output};
 use crate::shown::{Hex, Told};
 use commands::read_device_vars::{DeviceVariable, ReadDeviceVarsResponse};
 use commands::{
-    DeviceIdentity, IdentityRead, Mode, TagDescriptorDate, read_device_id, read_device_vars,
+    DeviceIdentity, IdentityRead, Mode, TagDescriptorDate, read_device_vars,
     read_tag_descriptor_date, read_unique_id_by_tag, write_tag_descriptor_date,
 };
 use framing::PayloadVerdict;
@@ -155,18 +155,13 @@ pub(crate) fn put_texts(response: TagDescriptorDate, out: &mut Output) -> fmt::R
     write!(out, "{}", Told(read))
 }
 
-pub(crate) fn read_identity(mut given: Given, out: &mut Output) -> Answered {
-    put_identity(DeviceIdentity::decode(given.rest()), out)?;
-    Ok(())
-}
-
-pub(crate) fn read_device(mut given: Given, out: &mut Output) -> Answered {
-    put_identity(read_device_id::decode_data(given.rest()), out)?;
-    Ok(())
-}
-
-pub(crate) fn read_tagged(mut given: Given, out: &mut Output) -> Answered {
-    put_identity(read_unique_id_by_tag::decode_data(given.rest()), out)?;
+// By one of the calls that read an identity.
+pub(crate) fn read_identity<F>(decode: F, mut given: Given, out: &mut Output) -> Answered
+where
+    F: FnOnce(&[u8]) -> IdentityRead,
+    requires { F.IsAlwaysCallable decode }
+{
+    put_identity(decode(given.rest()), out)?;
     Ok(())
 }
 
