@@ -18,7 +18,8 @@ use crate::writers::{
 use commands::{DeviceIdentity, Mode, read_device_id, read_unique_id_by_tag};
 use packed_string::{decode_packed, decode_standard, encode_packed, encode_standard};
 
-// A call that has both modes has a small letter for that of the Rust, and the capital one for the standard.
+// A call that has both modes has a small letter for that of the Rust, and the capital one for the standard. Text is
+// coded through closures: a function of another crate's private module has no contract as a value.
 pub(crate) fn answer_call(letter: u8, given: Given, out: &mut Output) -> Answered {
     match letter {
         REMARK => {

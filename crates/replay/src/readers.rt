@@ -58,24 +58,29 @@ struct Identity(DeviceIdentity);
 
 impl fmt::Display for Identity {
     fn fmt<W: fmt::Write>(&self, f: &mut fmt::Formatter<W>) -> fmt::Result {
-        let identity = self.0;
+        let DeviceIdentity {
+            expansion_code,
+            expanded_device_type,
+            min_preamble_count,
+            hart_revision,
+            device_revision,
+            software_revision,
+            hardware_revision,
+            physical_signaling,
+            flags,
+            device_id,
+        } = self.0;
         write!(
             f,
-            "{:02X}{:04X}{:02X}",
-            identity.expansion_code, identity.expanded_device_type, identity.min_preamble_count
+            "{expansion_code:02X}{expanded_device_type:04X}{min_preamble_count:02X}"
         )?;
         write!(
             f,
-            "{}{:08X}",
-            Hex(&[
-                identity.hart_revision,
-                identity.device_revision,
-                identity.software_revision,
-                identity.hardware_revision,
-                identity.physical_signaling,
-                identity.flags,
-            ]),
-            identity.device_id
+            "{hart_revision:02X}{device_revision:02X}{software_revision:02X}"
+        )?;
+        write!(
+            f,
+            "{hardware_revision:02X}{physical_signaling:02X}{flags:02X}{device_id:08X}"
         )
     }
 }
