@@ -5,7 +5,7 @@ use crate::output::{Answered, Output};
 use crate::shown::{Hex, Told};
 use commands::read_device_vars::{DeviceVariable, ReadDeviceVarsResponse};
 use commands::{
-    DeviceIdentity, IdentityRead, Mode, TagDescriptorDate, read_device_id, read_device_vars,
+    DeviceIdentity, IdentityRead, Mode, TagDescriptorDate, read_device_vars,
     read_tag_descriptor_date, read_unique_id_by_tag, write_tag_descriptor_date,
 };
 use framing::PayloadVerdict;
@@ -58,24 +58,29 @@ struct Identity(DeviceIdentity);
 
 impl fmt::Display for Identity {
     fn fmt<W: fmt::Write>(&self, f: &mut fmt::Formatter<W>) -> fmt::Result {
-        let identity = self.0;
+        let DeviceIdentity {
+            expansion_code,
+            expanded_device_type,
+            min_preamble_count,
+            hart_revision,
+            device_revision,
+            software_revision,
+            hardware_revision,
+            physical_signaling,
+            flags,
+            device_id,
+        } = self.0;
         write!(
             f,
-            "{:02X}{:04X}{:02X}",
-            identity.expansion_code, identity.expanded_device_type, identity.min_preamble_count
+            "{expansion_code:02X}{expanded_device_type:04X}{min_preamble_count:02X}"
         )?;
         write!(
             f,
-            "{}{:08X}",
-            Hex(&[
-                identity.hart_revision,
-                identity.device_revision,
-                identity.software_revision,
-                identity.hardware_revision,
-                identity.physical_signaling,
-                identity.flags,
-            ]),
-            identity.device_id
+            "{hart_revision:02X}{device_revision:02X}{software_revision:02X}"
+        )?;
+        write!(
+            f,
+            "{hardware_revision:02X}{physical_signaling:02X}{flags:02X}{device_id:08X}"
         )
     }
 }
@@ -155,18 +160,13 @@ pub(crate) fn put_texts(response: TagDescriptorDate, out: &mut Output) -> fmt::R
     write!(out, "{}", Told(read))
 }
 
-pub(crate) fn read_identity(mut given: Given, out: &mut Output) -> Answered {
-    put_identity(DeviceIdentity::decode(given.rest()), out)?;
-    Ok(())
-}
-
-pub(crate) fn read_device(mut given: Given, out: &mut Output) -> Answered {
-    put_identity(read_device_id::decode_data(given.rest()), out)?;
-    Ok(())
-}
-
-pub(crate) fn read_tagged(mut given: Given, out: &mut Output) -> Answered {
-    put_identity(read_unique_id_by_tag::decode_data(given.rest()), out)?;
+// By one of the calls that read an identity.
+pub(crate) fn read_identity<F>(decode: F, mut given: Given, out: &mut Output) -> Answered
+where
+    F: FnOnce(&[u8]) -> IdentityRead,
+    requires { F.IsAlwaysCallable decode }
+{
+    put_identity(decode(given.rest()), out)?;
     Ok(())
 }
 

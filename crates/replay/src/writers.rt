@@ -9,7 +9,6 @@ use commands::{
     write_tag_descriptor_date,
 };
 use framing::encode_frame;
-use packed_string::{decode_packed, decode_standard, encode_packed, encode_standard};
 use refusal::Refusal;
 use std::fmt;
 use std::fmt::Write;
@@ -42,24 +41,14 @@ pub(crate) fn write_frame(mut given: Given, out: &mut Output) -> Answered {
     Ok(())
 }
 
-pub(crate) fn write_packed(mode: Mode, mut given: Given, out: &mut Output) -> Answered {
+// Text, and packed text, behind the room for the other.
+pub(crate) fn write_text<F>(write: F, mut given: Given, out: &mut Output) -> Answered
+where
+    F: FnOnce(&[u8], &mut [u8]) -> Result<usize, Refusal>,
+    requires { F.IsAlwaysCallable write }
+{
     let mut buffer = given.room()?;
-    let text = given.rest();
-    let written = match mode {
-        Mode::Crate => Ok(encode_packed(text, buffer.lent())),
-        Mode::Standard => encode_standard(text, buffer.lent()),
-    };
-    put_written(written, buffer, out)?;
-    Ok(())
-}
-
-pub(crate) fn write_unpacked(mode: Mode, mut given: Given, out: &mut Output) -> Answered {
-    let mut buffer = given.room()?;
-    let packed = given.rest();
-    let written = match mode {
-        Mode::Crate => Ok(decode_packed(packed, buffer.lent())),
-        Mode::Standard => decode_standard(packed, buffer.lent()),
-    };
+    let written = write(given.rest(), buffer.lent());
     put_written(written, buffer, out)?;
     Ok(())
 }
