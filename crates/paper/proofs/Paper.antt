@@ -16,9 +16,8 @@ use Rattle.line.specs.Runs.{says, ends_in}
 use Rattle.line.proofs.Bytes.{all_small, bytes_given}
 use Rattle.line.proofs.Scan.{Scan, hunt, scan_within, scan, told}
 use Rattle.line.specs.Encode.{encoded}
-use Rattle.line.specs.machine.Frames.{heard_of}
+use Rattle.line.specs.machine.Frames.{Heard, heard_of}
 use Rattle.line.proofs.machine.Image.{real}
-use Rattle.line.specs.declared.frame.Heard.{Heard}
 use Rattle.framing.specs.Feed.{decoder_of}
 use Rattle.framing.proofs.Demand.{heard_scanned, ends_scanned}
 use Rattle.framing.specs.declared.decode.Decoder.{Decoder}

@@ -1,6 +1,6 @@
 -- Document 01, 'Examples': those marked (P), as one list: packed text, what a decoder reads and what the encoder writes. Each has what the
 -- definitions make of it and what document 01 says.
-use Rattle.std.specs.Prelude.{ℕ, false, List, [], ◌∷◌, ◌++◌, replicate}
+use Rattle.std.specs.Prelude.{ℕ, false, List, [], ◌∷◌, ◌++◌, replicate, Some, Ok}
 use Rattle.refusal.specs.Outcome.{Outcome, ends, done, refused}
 use Rattle.packed_string.specs.Standard.{standard_packed}
 use Rattle.packed_string.specs.Text.{crate_packed, crate_unpacked}
@@ -12,13 +12,11 @@ use Rattle.line.specs.Layout.{preambles}
 use Rattle.line.specs.Events.{silence, refusal}
 use Rattle.line.specs.Runs.{ends_in, says}
 use Rattle.line.specs.Encode.{encoded}
-use Rattle.line.specs.machine.Frames.{padded, heard_of}
+use Rattle.line.specs.machine.Frames.{padded, Heard, heard_of}
 use Rattle.framing.specs.Feed.{fresh_decoder}
 use Rattle.framing.specs.Demand.{decoder_hears}
 use Rattle.line.specs.declared.state.State.{State}
 use Rattle.line.specs.declared.state.State.TheVariants.{Hunting}
-use Rattle.line.specs.declared.frame.Heard.{Heard}
-use Rattle.line.specs.declared.frame.Answer.TheVariants.{Found}
 
 -- What an example shows: what a call comes to; or what is heard at each byte of a run, and where the decoder then stands.
 pub data Shown : Type 0 where
@@ -80,16 +78,14 @@ reading r = record {
 }
 
 abbrev request : Address → ℕ → List ℕ → ℕ → Heard
-request address command payload n = record {
-  answer = Found;
-  frame = record {
-    frame_type = Request;
-    address = address;
-    command = command;
-    «data» = padded 255 payload;
-    length = n;
-  };
-}
+request address command payload n =
+    Ok (Some (record {
+      frame_type = Request;
+      address = address;
+      command = command;
+      «data» = padded 255 payload;
+      length = n;
+    }))
 
 abbrev request_0 : Heard
 request_0 = request worked_short_address 0 [] 0
