@@ -1,5 +1,5 @@
 // What a line of bytes means, and what a decoder holds and answers. Here are the decoder's types and no
-// code but what a head says; specs/ has the definitions, proofs/ the theorems, and the code of a byte is in
+// code but the empty frame and what a head says; specs/ has the definitions, proofs/ the theorems, and the code of a byte is in
 // `framing`.
 #![tactic(auto)]
 

@@ -1,6 +1,9 @@
 -- A frame as callers see it, and what a caller is answered at a byte.
-use Rattle.std.specs.Prelude.{ℕ, ◌-◌, List, ◌++◌, length, take, drop, replicate, Option, Some, None, Result, Ok, Err}
+use Rattle.std.specs.Prelude.{ℕ, ◌-◌, false, List, [], ◌++◌, length, take, drop, replicate, Option, Some, None, Result, Ok, Err}
 use Rattle.refusal.specs.declared.Refusal.{Refusal}
+use Rattle.types.specs.declared.delimiter.FrameType.TheVariants.{Request}
+use Rattle.types.specs.declared.first.MasterRole.TheVariants.{Secondary}
+use Rattle.types.specs.declared.address.Address.TheVariants.{Short}
 use Rattle.types.specs.Address.{head_length, head_room, read_address}
 use Rattle.line.specs.machine.Step.{opening_in}
 use Rattle.line.specs.Layout.{Wire, address_of}
@@ -21,6 +24,16 @@ frame_of w = record {
   command = w.command;
   «data» = padded data_room w.payload;
   length = length w.payload;
+}
+
+-- a frame to start from
+abbrev pub no_frame : Frame
+no_frame = record {
+  frame_type = Request;
+  address = Short Secondary false 0;
+  command = 0;
+  «data» = padded data_room [];
+  length = 0;
 }
 
 -- the frame that the bytes beside a state hold
