@@ -3,7 +3,7 @@
 ghost use Rattle.std.specs.Prelude.{◌≡◌, true, ◌≤◌, length, drop};
 ghost use Rattle.types.specs.Address.{head_room};
 ghost use Rattle.line.specs.machine.Room.{decoder_room};
-ghost use Rattle.line.specs.machine.Reachable.{claim, no_claim, claim_of, all_zero, is_clear, is_right, reachable_at};
+ghost use Rattle.line.specs.machine.Reachable.{claim, possible_claim, all_zero, is_clear, is_right, reachable_at};
 
 use line::{Claim, Head, PREAMBLE_CAP, ROOM, State};
 use octets::checksum_from;
@@ -15,28 +15,21 @@ const STRIDE: usize = 64;
 // A decoder's bytes are four strides and these.
 const ODD: usize = ROOM - 4 * STRIDE;
 
-fn no_claim(possible: bool) -> Claim
-    ensures { result ≡ no_claim possible }
-{
-    Claim {
-        possible,
-        check: 0,
-        start: 0,
-        address: 0,
-        command: 0,
-        count: 0,
-        loaded: 0,
-    }
-}
+const NO_CLAIM: Claim = Claim {
+    check: 0,
+    start: 0,
+    address: 0,
+    command: 0,
+    count: 0,
+    loaded: 0,
+};
 
-fn claimed(possible: bool, head: Head, address: u8, command: u8, count: u8, loaded: u8) -> Claim
-    ensures { result ≡ claim possible head address command count loaded }
+fn claimed(head: Head, address: u8, command: u8, count: u8, loaded: u8) -> Claim
+    ensures { result ≡ claim head address command count loaded }
 {
-    let opening = head.opening();
     Claim {
-        possible,
         check: head.check,
-        start: delimiter_byte(opening),
+        start: delimiter_byte(head.opening()),
         address,
         command,
         count,
@@ -44,33 +37,42 @@ fn claimed(possible: bool, head: Head, address: u8, command: u8, count: u8, load
     }
 }
 
-fn claim_of(state: State) -> Claim
-    ensures { result ≡ claim_of state }
+// The claim of a state whose counts are possible at all.
+fn possible_claim(state: State) -> Option<Claim>
+    ensures { result ≡ possible_claim state }
 {
     match state {
-        State::Hunting => no_claim(true),
-        State::Preamble(count) => no_claim((0 < count) & (count <= PREAMBLE_CAP)),
-        State::Address { head, received } => {
-            let all = head_length(head.opening());
-            claimed(received < all, head, received, 0, 0, 0)
+        State::Hunting => Some(NO_CLAIM),
+        State::Preamble(count) => {
+            if (0 < count) & (count <= PREAMBLE_CAP) {
+                Some(NO_CLAIM)
+            } else {
+                None
+            }
         }
-        State::Command { head } => claimed(true, head, head_length(head.opening()), 0, 0, 0),
-        State::ByteCount { head, command } => claimed(
-            true,
-            head,
-            head_length(head.opening()),
-            command,
-            0,
-            0,
-        ),
+        State::Address { head, received } => {
+            if received < head_length(head.opening()) {
+                Some(claimed(head, received, 0, 0, 0))
+            } else {
+                None
+            }
+        }
+        State::Command { head } => Some(claimed(head, head_length(head.opening()), 0, 0, 0)),
+        State::ByteCount { head, command } => {
+            Some(claimed(head, head_length(head.opening()), command, 0, 0))
+        }
         State::Data {
             head,
             command,
             expected,
             received,
         } => {
-            let all = head_length(head.opening());
-            claimed(received < expected, head, all, command, expected, received)
+            if received < expected {
+                let all = head_length(head.opening());
+                Some(claimed(head, all, command, expected, received))
+            } else {
+                None
+            }
         }
         State::Checksum {
             head,
@@ -78,7 +80,7 @@ fn claim_of(state: State) -> Claim
             expected,
         } => {
             let all = head_length(head.opening());
-            claimed(true, head, all, command, expected, expected)
+            Some(claimed(head, all, command, expected, expected))
         }
     }
 }
@@ -88,10 +90,8 @@ fn is_zero(bytes: &[u8]) -> bool
     ensures { result ≡ all_zero bytes.now }
 {
     let mut zero = true;
-    let mut i = 0;
-    while i < bytes.len() {
-        zero = zero & (bytes[i] == 0);
-        i += 1;
+    for byte in bytes {
+        zero &= *byte == 0;
     }
     zero
 }
@@ -132,13 +132,12 @@ pub fn is_reachable(state: State, bytes: &[u8]) -> bool
     if bytes.len() != ROOM {
         return false;
     }
-    let claim = claim_of(state);
-    if claim.possible {
-        let address = claim.address as usize;
-        let address_clear = is_zero(&bytes[address..HEAD_ROOM]);
-        let data_clear = is_zero_from(bytes, HEAD_ROOM + claim.loaded as usize);
-        let right = is_right(claim, bytes);
-        return address_clear & data_clear & right;
-    }
-    false
+    let Some(claim) = possible_claim(state) else {
+        return false;
+    };
+    let address = claim.address as usize;
+    let address_clear = is_zero(&bytes[address..HEAD_ROOM]);
+    let data_clear = is_zero_from(bytes, HEAD_ROOM + claim.loaded as usize);
+    let right = is_right(claim, bytes);
+    address_clear & data_clear & right
 }

@@ -17,7 +17,7 @@ use Rattle.line.specs.machine.Step.{opening_in}
 use Rattle.line.specs.Pieces.{Bytes}
 use Rattle.line.proofs.Bytes.{bytes_left, bytes_right}
 use Rattle.line.specs.machine.Room.{decoder_room}
-use Rattle.line.specs.machine.Reachable.{claim_of}
+use Rattle.line.specs.machine.Reachable.{counts_possible}
 use Rattle.line.specs.machine.Feed.{Held, holding, fresh, reachable}
 use Rattle.line.specs.machine.Demand.{hears, SmallState, Value, Reached}
 use Rattle.line.specs.declared.state.State.{State}
@@ -39,7 +39,7 @@ use Rattle.host.specs.Block.{header_size, block_size, block_of, header_in, state
 use Rattle.host.specs.Demand.{Brought}
 
 -- the numbers of a state that passes the test fit their fields
-fits_field : (s : State) → SmallState s → (claim_of s).possible ≡ true → Fitting s
+fits_field : (s : State) → SmallState s → counts_possible s ≡ true → Fitting s
 fits_field Hunting z p = without_fits 0 0 (omega arith) (omega arith)
 fits_field (Preamble n) z p = without_fits 1 n (omega arith) (leb-true n _ (and_second (ltb 0 n) _ p))
 fits_field (Address h k) z p = with_fits 2 h k 0 0 0 (omega arith) z.0 (omega (arith, ltb-true k (head_length (opening_in h)) p, head_length_le (opening_in h))) (omega arith) (omega arith) (omega arith)

@@ -12,7 +12,7 @@ use Rattle.types.specs.Address.{head_length, head_room}
 use Rattle.types.proofs.Addresses.{head_length_le}
 use Rattle.line.specs.machine.Step.{opening_in}
 use Rattle.line.specs.machine.Room.{decoder_room}
-use Rattle.line.specs.machine.Reachable.{claim_of, is_clear, is_right, reachable_at}
+use Rattle.line.specs.machine.Reachable.{counts_possible, claim_of, is_clear, is_right, reachable_at}
 use Rattle.line.specs.declared.state.State.{State}
 use Rattle.line.specs.declared.state.State.TheVariants.{
   Hunting,
@@ -30,7 +30,7 @@ module _ (s : State) (bs : List ℕ) (r : reachable_at s bs ≡ true) where
   seen = is_clear (claim_of s) bs && is_right (claim_of s) bs
 
   abbrev claimed : Bool
-  claimed = (claim_of s).possible && seen
+  claimed = counts_possible s && seen
 
   pub whole : length bs ≡ decoder_room
   unfolding reachable_at
@@ -40,11 +40,11 @@ module _ (s : State) (bs : List ℕ) (r : reachable_at s bs ≡ true) where
   unfolding reachable_at
   holds = and_second (eqb (length bs) decoder_room) claimed r
 
-  pub possible : (claim_of s).possible ≡ true
-  possible = and_first (claim_of s).possible seen holds
+  pub possible : counts_possible s ≡ true
+  possible = and_first (counts_possible s) seen holds
 
   passed : seen ≡ true
-  passed = and_second (claim_of s).possible seen holds
+  passed = and_second (counts_possible s) seen holds
 
   pub clear : is_clear (claim_of s) bs ≡ true
   clear = and_first (is_clear (claim_of s) bs) (is_right (claim_of s) bs) passed
@@ -52,7 +52,7 @@ module _ (s : State) (bs : List ℕ) (r : reachable_at s bs ≡ true) where
   pub right : is_right (claim_of s) bs ≡ true
   right = and_second (is_clear (claim_of s) bs) (is_right (claim_of s) bs) passed
 
-pub possible_address : (s : State) → (claim_of s).possible ≡ true → (claim_of s).address ≤ head_room
+pub possible_address : (s : State) → counts_possible s ≡ true → (claim_of s).address ≤ head_room
 possible_address Hunting e = omega arith
 possible_address (Preamble n) e = omega arith
 possible_address (Address h k) e = omega (arith, ltb-true k (head_length (opening_in h)) e, head_length_le (opening_in h))

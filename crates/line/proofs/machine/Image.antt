@@ -46,7 +46,7 @@ use Rattle.line.proofs.Scan.{
 use Rattle.line.specs.machine.Room.{data_room, decoder_room}
 use Rattle.line.specs.machine.Frames.{padded, wire_at}
 use Rattle.line.specs.machine.Step.{head_of, delimited, preamble_cap}
-use Rattle.line.specs.machine.Reachable.{no_claim, claim, claim_of, is_clear, is_right, reachable_at}
+use Rattle.line.specs.machine.Reachable.{counts_possible, no_claim, claim, claim_of, is_clear, is_right, reachable_at}
 use Rattle.line.specs.machine.Feed.{Held, holding, blank, fresh, reachable, settled, stepped, feeding}
 use Rattle.line.specs.declared.state.Head.{Head}
 use Rattle.line.specs.declared.state.State.{State}
@@ -121,9 +121,9 @@ module _ (hs ds : List ℕ) (short : length hs ≤ head_room) where
   pub whole_array : length ds ≤ data_room → length (array hs ds) ≡ decoder_room
   whole_array h = length-append (padded head_room hs) (padded data_room ds) ∙ omega (arith, length-padded head_room hs short, length-padded data_room ds h)
 
-  passes_array : length ds ≤ data_room → (q : Claim) → q.possible ≡ true → q.address ≡ length hs → q.loaded ≡ length ds → q.check ≡ check_from q.start (hs ++ (q.command ∷ q.count ∷ ds))
-      → eqb (length (array hs ds)) decoder_room && (q.possible && (is_clear q (array hs ds) && is_right q (array hs ds))) ≡ true
-  passes_array h q p a n e = rw (eq-eqb (length (array hs ds)) decoder_room (whole_array h), p, clear_array q a n, right_array q a n e)
+  passes_array : length ds ≤ data_room → (q : Claim) {p : Bool} → p ≡ true → q.address ≡ length hs → q.loaded ≡ length ds → q.check ≡ check_from q.start (hs ++ (q.command ∷ q.count ∷ ds))
+      → eqb (length (array hs ds)) decoder_room && (p && (is_clear q (array hs ds) && is_right q (array hs ds))) ≡ true
+  passes_array h q possible a n e = rw (eq-eqb (length (array hs ds)) decoder_room (whole_array h), possible, clear_array q a n, right_array q a n e)
 
 -- what was not read is zero and adds nothing to a check
 pub zeros_read : (x : ℕ) (hs : List ℕ) → check_from x hs ≡ check_from x (hs ++ (0 ∷ 0 ∷ []))
@@ -139,32 +139,31 @@ count_byte hs c e ds k = (bytes_right hs (c ∷ e ∷ ds) k.1).1.0
 reachable_phase : (p : Phase) → Sized p → Bytes (opened p) → reachable_at (state_of p) (array_of p) ≡ true
 unfolding reachable_at
 reachable_phase (addressing o hs) z k =
-    passes_array hs [] (omega (arith, head_length_le o)) (omega arith) (claim (ltb (length hs) (head_length o)) (head_at o (addressing o hs)) (length hs) 0 0 0)
+    passes_array hs [] (omega (arith, head_length_le o)) (omega arith) (claim (head_at o (addressing o hs)) (length hs) 0 0 0)
     (lt-ltb (length hs) (head_length o) z) refl refl (check_first (delimiter o) hs ∙ zeros_read (delimiter o) hs)
 reachable_phase (commanding o hs) z k =
-    passes_array hs [] (omega (arith, z, head_length_le o)) (omega arith) (claim true (head_at o (commanding o hs)) (head_length o) 0 0 0)
+    passes_array hs [] (omega (arith, z, head_length_le o)) (omega arith) (claim (head_at o (commanding o hs)) (head_length o) 0 0 0)
     refl (sym z) refl (check_first (delimiter o) hs ∙ zeros_read (delimiter o) hs)
 reachable_phase (counting o hs c) z k =
-    passes_array hs [] (omega (arith, z, head_length_le o)) (omega arith) (claim true (head_at o (counting o hs c)) (head_length o) c 0 0)
+    passes_array hs [] (omega (arith, z, head_length_le o)) (omega arith) (claim (head_at o (counting o hs c)) (head_length o) c 0 0)
     refl (sym z) refl (check_first (delimiter o) (hs ++ (c ∷ [])) ∙ zero_read (delimiter o) c hs)
 reachable_phase (loading o hs c e ds) z k =
-    passes_array hs ds (omega (arith, z.0, head_length_le o)) (omega (arith, z.1, count_byte hs c e ds k)) (claim (ltb (length ds) e) (head_at o (loading o hs c e ds)) (head_length o) c e (length ds))
+    passes_array hs ds (omega (arith, z.0, head_length_le o)) (omega (arith, z.1, count_byte hs c e ds k)) (claim (head_at o (loading o hs c e ds)) (head_length o) c e (length ds))
     (lt-ltb (length ds) e z.1) (sym z.0) refl (check_first (delimiter o) (hs ++ (c ∷ e ∷ ds)))
 reachable_phase (checking w) z k =
     let n : ℕ = length w.payload in
     passes_array w.heading w.payload (omega (arith, z.heading_fits, head_length_le w.opening)) z.count_fits
-    (claim true (head_at w.opening (checking w)) (head_length w.opening) w.command n n)
+    (claim (head_at w.opening (checking w)) (head_length w.opening) w.command n n)
     refl (sym z.heading_fits) refl (check_first (delimiter w.opening) (w.heading ++ (w.command ∷ n ∷ w.payload)))
 
-reachable_blank : (s : State) (p : Bool) → claim_of s ≡ no_claim p → p ≡ true → reachable_at s blank ≡ true
+reachable_blank : (s : State) → claim_of s ≡ no_claim → counts_possible s ≡ true → reachable_at s blank ≡ true
 unfolding reachable_at
-reachable_blank s p e h = rw (e, blank_array) (passes_array [] [] (omega arith) (omega arith) (no_claim p) h refl refl refl)
+reachable_blank s e h = rw (e, blank_array) (passes_array [] [] (omega arith) (omega arith) no_claim h refl refl refl)
 
 pub reachable_real : (s : Scan) → Fine s → reachable (real s) ≡ true
-reachable_real hunt f = reachable_blank Hunting true refl refl
+reachable_real hunt f = reachable_blank Hunting refl refl
 reachable_real (pre n) f =
-    let m : ℕ = min n preamble_cap in
-    reachable_blank (Preamble m) (ltb 0 m && leb m preamble_cap) refl (rw (lt-ltb 0 m (omega arith), le-leb m preamble_cap (omega arith)))
+    let m : ℕ = min n preamble_cap in reachable_blank (Preamble m) refl (rw (lt-ltb 0 m (omega arith), le-leb m preamble_cap (omega arith)))
 reachable_real (within n p) f = reachable_phase p f.1 f.2
 
 -- ---- a byte into the image

@@ -2,14 +2,16 @@
 use Prim.Native.Nat.{ℕ, ◌+◌, ◌-◌, ◌≤◌}
 use native.Mathlib.Omega.{arith}
 use mathlib.Core.Path.{◌≡◌, refl, sym, ap, ap₂, ◌∙◌}
-use mathlib.Core.Bool.{Bool, true, false, ◌&&◌}
+use mathlib.Core.Bool.{Bool, true, false, ◌&&◌, cond}
 use mathlib.Core.List.{List}
 use lib.ListN.{length, take, drop}
 use lib.Seq.{length-take-le, take-add, drop_at, drop-drop}
 use borrow.Author.Tests.{eq-eqb, ne_eqb}
 use Rattle.types.specs.Address.{head_room}
 use Rattle.line.specs.machine.Room.{decoder_room}
-use Rattle.line.specs.machine.Reachable.{claim_of, all_zero, is_clear, is_right, reachable_at}
+use Rattle.line.specs.machine.Reachable.{counts_possible, claim_of, possible_claim, all_zero, is_clear, is_right, reachable_at}
+use Rattle.line.specs.declared.state.State.{State}
+use Rattle.std.specs.Prelude.{Option, Some, None}
 use Rattle.line.specs.declared.claim.Claim.{Claim}
 use Rattle.line.proofs.machine.Claims.{possible_address}
 use Rattle.framing.proofs.reachable.is_reachable.Goals as goal
@@ -28,25 +30,40 @@ pub returns-then-bytes-ne-ROOM : goal.returns-then-bytes-ne-ROOM
 unfolding reachable_at
 returns-then-bytes-ne-ROOM c = rw (ne_eqb _ decoder_room c.if-bytes-ne-ROOM.true)
 
-pub returns-then-claim : goal.returns-then-claim
-unfolding reachable_at
-returns-then-claim c =
-    let a = c.args in
-    let bs = a.bytes.now in
-    let q = claim_of a.state in
-    let whole : length bs ≡ decoder_room = c.if-bytes-ne-ROOM.false in
-    let e : c.claim_of-claim.result ≡ q = c.claim_of-claim.ensures in
-    let p : q.possible ≡ true = sym (ap (λ (x : Claim). x.possible) e) ∙ c.if-claim.true in
-    let address : c.is_zero-address_clear.result ≡ all_zero (drop q.address (take head_room bs)) = rw e at c.is_zero-address_clear.ensures ∙ ap all_zero (part_front q.address head_room bs (possible_address a.state p) (omega arith)) in
-    let loaded : c.is_zero_from-data_clear.result ≡ all_zero (drop q.loaded (drop head_room bs)) = rw e at c.is_zero_from-data_clear.ensures ∙ ap all_zero (sym (drop-drop q.loaded head_room bs)) in
-    let right : is_clear q bs ≡ true → c.is_right-right.result ≡ is_right q bs = rw e at c.is_right-right.ensures in
-    let asked : reachable_at a.state bs ≡ is_clear q bs && is_right q bs = rw (eq-eqb (length bs) decoder_room whole, p) in
-    ap₂ (λ (x y : Bool). (x && y) && c.is_right-right.result) address loaded ∙ and_under (is_clear q bs) c.is_right-right.result (is_right q bs) right ∙ sym asked
+-- what a claim of a state whose counts are possible is, and that a state with none has counts that are not
+module _ (s : State) where
+  claim_made : (q : Claim) → possible_claim s ≡ Some q → (counts_possible s ≡ true) × (q ≡ claim_of s)
+  claim_made q = by (counts_possible s)
+    where
+      by : (t : Bool) → cond t (Some (claim_of s)) None ≡ Some q → (t ≡ true) × (q ≡ claim_of s)
+      by true e = (refl, cc)
+      by false e = cc
+
+  claim_missing : possible_claim s ≡ None → counts_possible s ≡ false
+  claim_missing = by (counts_possible s)
+    where
+      by : (t : Bool) → ◌≡◌ {A = Option Claim} (cond t (Some (claim_of s)) None) None → t ≡ false
+      by true e = cc
+      by false e = refl
 
 pub returns : goal.returns
 unfolding reachable_at
 returns c =
-    let s = c.args.state in
-    let e : c.claim_of-claim.result ≡ claim_of s = c.claim_of-claim.ensures in
-    let p : (claim_of s).possible ≡ false = sym (ap (λ (x : Claim). x.possible) e) ∙ c.if-claim.false in
-    rw (eq-eqb (length c.args.bytes.now) decoder_room c.if-bytes-ne-ROOM.false, p)
+    let a = c.args in
+    let bs = a.bytes.now in
+    let q = claim_of a.state in
+    let whole : length bs ≡ decoder_room = c.if-bytes-ne-ROOM.false in
+    let made = claim_made a.state c.in-Some.claim (sym c.possible_claim.ensures ∙ c.in-Some.is) in
+    let e : c.in-Some.claim ≡ q = made.1 in
+    let address : c.is_zero-address_clear.result ≡ all_zero (drop q.address (take head_room bs)) = rw e at c.is_zero-address_clear.ensures ∙ ap all_zero (part_front q.address head_room bs (possible_address a.state made.0) (omega arith)) in
+    let loaded : c.is_zero_from-data_clear.result ≡ all_zero (drop q.loaded (drop head_room bs)) = rw e at c.is_zero_from-data_clear.ensures ∙ ap all_zero (sym (drop-drop q.loaded head_room bs)) in
+    let right : is_clear q bs ≡ true → c.is_right-right.result ≡ is_right q bs = rw e at c.is_right-right.ensures in
+    let asked : reachable_at a.state bs ≡ is_clear q bs && is_right q bs = rw (eq-eqb (length bs) decoder_room whole, made.0) in
+    ap₂ (λ (x y : Bool). (x && y) && c.is_right-right.result) address loaded ∙ and_under (is_clear q bs) c.is_right-right.result (is_right q bs) right ∙ sym asked
+
+pub returns-in_default : goal.returns-in_default
+unfolding reachable_at
+returns-in_default c =
+    let a = c.args in
+    let p : counts_possible a.state ≡ false = claim_missing a.state (sym c.possible_claim.ensures ∙ c.in_default.is) in
+    rw (eq-eqb (length a.bytes.now) decoder_room c.if-bytes-ne-ROOM.false, p)

@@ -7,8 +7,8 @@ use lib.ListN.{get_or}
 use Rattle.line.proofs.machine.Zeros.{zeros_turn}
 use Rattle.framing.proofs.reachable.is_zero.Goals as goal
 
-pub loop-i-preserved : goal.loop-i-preserved
-loop-i-preserved c =
-    let l = c.loop-i in
+pub loop-byte-preserved : goal.loop-byte-preserved
+loop-byte-preserved c =
+    let l = c.loop-byte in
     let bs = c.args.bytes.now in
-    rw add-one (ap (λ (t : Bool). t && eqb (get_or bs l.i 0) 0) l.invariant ∙ sym (zeros_turn l.i bs (omega arith)))
+    rw add-one (ap (λ (t : Bool). t && eqb (get_or bs l.byte-index 0) 0) l.invariant ∙ sym (zeros_turn l.byte-index bs (omega arith)))
