@@ -9,7 +9,7 @@ mod words;
 
 use commands::read_device_vars::{DeviceVariable, MAX_DEVICE_VARS, ReadDeviceVarsResponse};
 use commands::{Mode, Reading, read_device_vars, read_unique_id_by_tag};
-use framing::{Decoder, Frame, PayloadVerdict, encode_frame};
+use framing::{Decoder, Frame, encode_frame};
 use refusal::Refusal;
 use std::io::Read;
 use types::consts::MIN_PREAMBLE_COUNT;
@@ -86,11 +86,9 @@ fn tell_variables(rt: &impl Print, response: ReadDeviceVarsResponse) {
 // The response that a frame carries in the mode of the HART documents. Whatever stands in its way, from the
 // frame's type to the device's own error codes, comes back as a refusal.
 fn tell_response(rt: &impl Print, frame: Frame) {
-    let response = read_device_vars::read_response(Mode::Standard, frame);
-    let verdict = response.verdict;
-    match verdict {
-        PayloadVerdict::Carried => tell_variables(rt, response),
-        PayloadVerdict::Refused(refusal) => {
+    match read_device_vars::read_response(Mode::Standard, frame) {
+        Ok(response) => tell_variables(rt, response),
+        Err(refusal) => {
             print(rt, b"  no readings:");
             print_refusal(rt, refusal);
         }

@@ -1,7 +1,7 @@
 // What a measured value is worth, letter m. A float gives its bits only where it is no NaN, so the variable's bits
 // are shown if the reading's float and the variable's value are the float that is made of them here, by
 // arithmetic alone: where the library reads bits otherwise the answer is `other`.
-use crate::text::{OUT_SIZE, put_bytes, put_text};
+use crate::text::{OUT_SIZE, put_bytes, put_refusal, put_text};
 use commands::read_device_vars::DeviceVariable;
 use commands::{Mode, Reading, read_device_vars};
 use octets::encode_u32_be;
@@ -82,8 +82,8 @@ fn put_reading(variable: DeviceVariable, out: &mut [u8; OUT_SIZE], at: usize) ->
 }
 
 pub(crate) fn read_reading(bytes: &[u8], out: &mut [u8; OUT_SIZE], at: usize) -> usize {
-    let response = read_device_vars::decode_data(Mode::Crate, bytes);
-    let variables = response.variables;
-    let variable = variables[0];
-    put_reading(variable, out, at)
+    match read_device_vars::decode_data(Mode::Crate, bytes) {
+        Ok(response) => put_reading(response.variables[0], out, at),
+        Err(refusal) => put_refusal(refusal, out, at),
+    }
 }

@@ -8,13 +8,18 @@ use commands::{
     Mode, read_device_id, read_device_vars, read_tag_descriptor_date, read_unique_id_by_tag,
     write_tag_descriptor_date,
 };
-use framing::{PayloadVerdict, payload_part, payload_verdict};
+use framing::{payload_part, payload_verdict};
+use refusal::Refusal;
 use types::FrameType;
 
-pub(crate) fn put_verdict(verdict: PayloadVerdict, out: &mut [u8; OUT_SIZE], at: usize) -> usize {
+pub(crate) fn put_verdict(
+    verdict: Result<(), Refusal>,
+    out: &mut [u8; OUT_SIZE],
+    at: usize,
+) -> usize {
     match verdict {
-        PayloadVerdict::Carried => put(b'.', out, at),
-        PayloadVerdict::Refused(refusal) => put_refusal(refusal, out, at),
+        Ok(()) => put(b'.', out, at),
+        Err(refusal) => put_refusal(refusal, out, at),
     }
 }
 

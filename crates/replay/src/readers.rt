@@ -5,10 +5,9 @@ use crate::choices::mode_of;
 use crate::text::{OUT_SIZE, put, put_bytes, put_marked, put_refusal};
 use commands::read_device_vars::{DeviceVariable, MAX_DEVICE_VARS, ReadDeviceVarsResponse};
 use commands::{
-    DeviceIdentity, IdentityRead, Mode, TagDescriptorDate, read_device_vars,
-    read_tag_descriptor_date, read_unique_id_by_tag, write_tag_descriptor_date,
+    DeviceIdentity, Mode, TagDescriptorDate, read_device_vars, read_tag_descriptor_date,
+    read_unique_id_by_tag, write_tag_descriptor_date,
 };
-use framing::PayloadVerdict;
 use octets::{encode_u16_be, encode_u32_be, least};
 use refusal::Refusal;
 use types::{Address, ResponseStatus};
@@ -74,10 +73,14 @@ fn identity_bytes(identity: DeviceIdentity) -> [u8; 14] {
     ]
 }
 
-pub(crate) fn put_identity(read: IdentityRead, out: &mut [u8; OUT_SIZE], at: usize) -> usize {
+pub(crate) fn put_identity(
+    read: Result<DeviceIdentity, Refusal>,
+    out: &mut [u8; OUT_SIZE],
+    at: usize,
+) -> usize {
     match read {
-        IdentityRead::Identity(identity) => put_bytes(&identity_bytes(identity), out, at),
-        IdentityRead::Refused(refusal) => put_refusal(refusal, out, at),
+        Ok(identity) => put_bytes(&identity_bytes(identity), out, at),
+        Err(refusal) => put_refusal(refusal, out, at),
     }
 }
 
@@ -113,14 +116,14 @@ fn put_each_variable(
 }
 
 pub(crate) fn put_variables(
-    response: ReadDeviceVarsResponse,
+    read: Result<ReadDeviceVarsResponse, Refusal>,
     out: &mut [u8; OUT_SIZE],
     at: usize,
 ) -> usize {
-    let verdict = response.verdict;
-    if let PayloadVerdict::Refused(refusal) = verdict {
-        return put_refusal(refusal, out, at);
-    }
+    let response = match read {
+        Ok(response) => response,
+        Err(refusal) => return put_refusal(refusal, out, at),
+    };
     let next = put_marked(response.count as usize, b' ', out, at);
     if response.count == 0 {
         return put(b'-', out, next);
@@ -153,12 +156,15 @@ fn put_fields(response: TagDescriptorDate, out: &mut [u8; OUT_SIZE], at: usize) 
     )
 }
 
-pub(crate) fn put_date(response: TagDescriptorDate, out: &mut [u8; OUT_SIZE], at: usize) -> usize {
-    let verdict = response.verdict;
-    if let PayloadVerdict::Refused(refusal) = verdict {
-        return put_refusal(refusal, out, at);
+pub(crate) fn put_date(
+    read: Result<TagDescriptorDate, Refusal>,
+    out: &mut [u8; OUT_SIZE],
+    at: usize,
+) -> usize {
+    match read {
+        Ok(response) => put_fields(response, out, at),
+        Err(refusal) => put_refusal(refusal, out, at),
     }
-    put_fields(response, out, at)
 }
 
 pub(crate) fn read_variables(

@@ -12,29 +12,36 @@ use commands::{
     Mode, read_device_id, read_device_vars, read_tag_descriptor_date, read_unique_id_by_tag,
     write_tag_descriptor_date,
 };
-use framing::{Frame, PayloadVerdict};
+use framing::Frame;
 use octets::{copy_into, has_bit};
+use refusal::Refusal;
 use types::consts::MAX_DATA_LENGTH;
 use types::{Address, FrameType, MasterRole};
 
-fn put_codes(request: ReadDeviceVarsRequest, out: &mut [u8; OUT_SIZE], at: usize) -> usize {
-    let verdict = request.verdict;
-    if let PayloadVerdict::Refused(refusal) = verdict {
-        return put_refusal(refusal, out, at);
-    }
+fn put_codes(
+    read: Result<ReadDeviceVarsRequest, Refusal>,
+    out: &mut [u8; OUT_SIZE],
+    at: usize,
+) -> usize {
+    let request = match read {
+        Ok(request) => request,
+        Err(refusal) => return put_refusal(refusal, out, at),
+    };
     let codes = request.codes;
     let count = request.count as usize;
     let next = put_marked(count, b' ', out, at);
     put_part(&codes, 0, count, out, next)
 }
 
-fn put_tag(request: ReadUniqueIdByTagRequest, out: &mut [u8; OUT_SIZE], at: usize) -> usize {
-    let verdict = request.verdict;
-    if let PayloadVerdict::Refused(refusal) = verdict {
-        return put_refusal(refusal, out, at);
+fn put_tag(
+    read: Result<ReadUniqueIdByTagRequest, Refusal>,
+    out: &mut [u8; OUT_SIZE],
+    at: usize,
+) -> usize {
+    match read {
+        Ok(request) => put_bytes(&request.tag, out, at),
+        Err(refusal) => put_refusal(refusal, out, at),
     }
-    let tag = request.tag;
-    put_bytes(&tag, out, at)
 }
 
 // The reader is the number of its command, whatever the frame's command is.
