@@ -19,7 +19,6 @@ use Rattle.line.specs.Encode.{wire_of}
 use Rattle.line.specs.machine.Frames.{frame_of}
 use Rattle.line.specs.machine.Demand.{frame_heard, frames_heard, refusals_heard}
 use Rattle.line.specs.declared.frame.Frame.{Frame}
-use Rattle.line.specs.machine.Frames.{Heard}
 use Rattle.line.proofs.Bytes.{bytes-append, bytes_left, bytes_right}
 use Rattle.framing.specs.Feed.{fresh_decoder}
 use Rattle.framing.specs.Demand.{decoder_hears}
