@@ -15,7 +15,8 @@ use Rattle.packed_string.specs.Plain.{Plain}
 use Rattle.types.specs.declared.delimiter.FrameType.TheVariants.{Request}
 use Rattle.line.specs.machine.Frames.{padded}
 use Rattle.line.specs.declared.frame.Frame.{Frame}
-use Rattle.framing.specs.declared.payload.PayloadVerdict.{PayloadVerdict}
+use Rattle.std.specs.Prelude.{Result}
+use Rattle.refusal.specs.declared.Refusal.{Refusal}
 use Rattle.framing.specs.Payload.{carries, judgement_of}
 use Rattle.framing.specs.Requests.{no_data}
 use Rattle.framing.specs.RoundTrip.{Handed, frame_back}
@@ -23,7 +24,6 @@ use Rattle.framing.specs.Bench.{Sent}
 use Rattle.framing.proofs.Bench.{bench_answered, bench_asked}
 use Rattle.response.specs.Sizes.{tag_length, descriptor_length, most_variables}
 use Rattle.commands.specs.declared.identity.DeviceIdentity.{DeviceIdentity}
-use Rattle.commands.specs.declared.identity.IdentityRead.{IdentityRead}
 use Rattle.commands.specs.declared.read_device_vars.DeviceVariable.{DeviceVariable}
 use Rattle.commands.specs.declared.read_device_vars.ReadDeviceVarsRequest.{ReadDeviceVarsRequest}
 use Rattle.commands.specs.declared.read_device_vars.ReadDeviceVarsResponse.{ReadDeviceVarsResponse}
@@ -55,14 +55,14 @@ module _ (h : Handed) where
     -- the device answers, and the host reads
     module _ (second : ℕ) (other : h.frame_type ≢ Request) where
       module _ (i : DeviceIdentity) (sent : Sent (identity_responded 0 second i) h count after) where
-        pub bench_answered_0 : h.command ≡ 0 → (r : IdentityRead) → response-0.Post tt (frame, tt) r (frame, tt) → identified_of r ≡ identified (lowered i)
+        pub bench_answered_0 : h.command ≡ 0 → (r : Result DeviceIdentity Refusal) → response-0.Post tt (frame, tt) r (frame, tt) → identified_of r ≡ identified (lowered i)
         bench_answered_0 asked r promised = promised ∙ (bench_answered sent command0 asked second (lowered_bytes i) (identity_leaves 0 second i) other).read ∙ identity_read_lowered i
 
-        pub bench_answered_11 : h.command ≡ 11 → (r : IdentityRead) → response-11.Post tt (frame, tt) r (frame, tt) → identified_of r ≡ identified (lowered i)
+        pub bench_answered_11 : h.command ≡ 11 → (r : Result DeviceIdentity Refusal) → response-11.Post tt (frame, tt) r (frame, tt) → identified_of r ≡ identified (lowered i)
         bench_answered_11 asked r promised = promised ∙ (bench_answered sent command11 asked second (lowered_bytes i) (identity_leaves 0 second i) other).read ∙ identity_read_lowered i
 
       pub bench_answered_9 : (extended : ℕ) (vs : List DeviceVariable) (n : ℕ) → length vs ≡ most_variables → n ≤ most_variables → AllLined vs n → Sent (variables_responded 0 second extended vs n) h count after → h.command ≡ 9
-          → (r : ReadDeviceVarsResponse) → response-9.Post tt (Standard, (frame, tt)) r (Standard, (frame, tt)) → variables_of r ≡ reads_variables carries n (take n vs ++ replicate (most_variables - n) no_variable)
+          → (r : Result ReadDeviceVarsResponse Refusal) → response-9.Post tt (Standard, (frame, tt)) r (Standard, (frame, tt)) → variables_of r ≡ reads_variables carries n (take n vs ++ replicate (most_variables - n) no_variable)
       bench_answered_9 extended vs n full few lined sent asked r promised =
           promised ∙ (bench_answered sent (command9 Standard) asked second (extended ∷ groups_bytes vs n) (variables_leaves 0 second extended vs n) other).read ∙ response_read_9 vs full extended n few lined
 
@@ -71,34 +71,34 @@ module _ (h : Handed) where
         abbrev layout : List ℕ
         layout = tag_descriptor_date_layout mode tag descriptor day month year
 
-        pub bench_answered_13 : h.command ≡ 13 → (r : TagDescriptorDate) → response-13.Post tt (mode, (frame, tt)) r (mode, (frame, tt)) → fields_of r ≡ reads_fields carries tag descriptor day month year
+        pub bench_answered_13 : h.command ≡ 13 → (r : Result TagDescriptorDate Refusal) → response-13.Post tt (mode, (frame, tt)) r (mode, (frame, tt)) → fields_of r ≡ reads_fields carries tag descriptor day month year
         bench_answered_13 asked r promised =
             promised ∙ (bench_answered sent (command13 mode) asked second layout (texts_leaves mode tag descriptor day month year 0 second) other).read ∙ texts_read mode tag descriptor day month year t d p q
 
-        pub bench_answered_18 : h.command ≡ 18 → (r : TagDescriptorDate) → response-18.Post tt (mode, (frame, tt)) r (mode, (frame, tt)) → fields_of r ≡ reads_fields carries tag descriptor day month year
+        pub bench_answered_18 : h.command ≡ 18 → (r : Result TagDescriptorDate Refusal) → response-18.Post tt (mode, (frame, tt)) r (mode, (frame, tt)) → fields_of r ≡ reads_fields carries tag descriptor day month year
         bench_answered_18 asked r promised =
             promised ∙ (bench_answered sent (command18 mode) asked second layout (texts_leaves mode tag descriptor day month year 0 second) other).read ∙ texts_read mode tag descriptor day month year t d p q
 
     -- the host asks, and the device reads
     module _ (same : h.frame_type ≡ Request) where
       module _ (sent : Sent (wrote []) h count after) where
-        pub bench_asked_0 : h.command ≡ 0 → (r : PayloadVerdict) → request_0.Post tt (frame, tt) r (frame, tt) → judgement_of r ≡ carries
+        pub bench_asked_0 : h.command ≡ 0 → (r : Result (Unit {0}) Refusal) → request_0.Post tt (frame, tt) r (frame, tt) → judgement_of r ≡ carries
         bench_asked_0 asked r promised = promised ∙ (bench_asked sent (no_data 0) asked [] (leaves_wrote []) same).read
 
-        pub bench_asked_13 : h.command ≡ 13 → (r : PayloadVerdict) → request-13.Post tt (frame, tt) r (frame, tt) → judgement_of r ≡ carries
+        pub bench_asked_13 : h.command ≡ 13 → (r : Result (Unit {0}) Refusal) → request-13.Post tt (frame, tt) r (frame, tt) → judgement_of r ≡ carries
         bench_asked_13 asked r promised = promised ∙ (bench_asked sent (no_data 13) asked [] (leaves_wrote []) same).read
 
       pub bench_asked_9 : (codes : List ℕ) → 1 ≤ length codes → length codes ≤ most_variables → Sent (codes_requested codes) h count after → h.command ≡ 9
-          → (r : ReadDeviceVarsRequest) → request-9.Post tt (frame, tt) r (frame, tt) → codes_of r ≡ reads_codes carries (length codes) (padded most_variables codes)
+          → (r : Result ReadDeviceVarsRequest Refusal) → request-9.Post tt (frame, tt) r (frame, tt) → codes_of r ≡ reads_codes carries (length codes) (padded most_variables codes)
       bench_asked_9 codes some few sent asked r promised = promised ∙ (bench_asked sent request9 asked codes (codes_leaves codes) same).read ∙ request_read_9 codes some few
 
       pub bench_asked_11 : (mode : Mode) (tag : List ℕ) → length tag ≡ tag_length → Plain tag → Sent (tag_requested mode tag) h count after → h.command ≡ 11
-          → (r : ReadUniqueIdByTagRequest) → request-11.Post tt (mode, (frame, tt)) r (mode, (frame, tt)) → tagged_of r ≡ reads_tag carries tag
+          → (r : Result ReadUniqueIdByTagRequest Refusal) → request-11.Post tt (mode, (frame, tt)) r (mode, (frame, tt)) → tagged_of r ≡ reads_tag carries tag
       bench_asked_11 mode tag t p sent asked r promised = promised ∙ (bench_asked sent (request11 mode) asked (packed_text mode tag) (tag_leaves mode tag) same).read ∙ request_read_11 mode tag t p
 
       pub bench_asked_18 : (mode : Mode) (tag descriptor : List ℕ) (day month year : ℕ) → length tag ≡ tag_length → length descriptor ≡ descriptor_length → Plain tag → Plain descriptor
           → Sent (tag_descriptor_date_requested mode tag descriptor day month year) h count after → h.command ≡ 18
-          → (r : TagDescriptorDate) → request-18.Post tt (mode, (frame, tt)) r (mode, (frame, tt)) → fields_of r ≡ reads_fields carries tag descriptor day month year
+          → (r : Result TagDescriptorDate Refusal) → request-18.Post tt (mode, (frame, tt)) r (mode, (frame, tt)) → fields_of r ≡ reads_fields carries tag descriptor day month year
       bench_asked_18 mode tag descriptor day month year t d p q sent asked r promised =
           promised
           ∙ (bench_asked sent (command18 mode) asked (tag_descriptor_date_layout mode tag descriptor day month year) (date_leaves mode tag descriptor day month year) same).read

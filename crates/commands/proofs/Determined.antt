@@ -1,12 +1,10 @@
 -- Each promise of this crate, beside those of the commands, leaves one outcome: one answer, and one content of each lent buffer.
-use mathlib.Core.Path.{◌≡◌, refl, sym, ap, ap₂, ◌∙◌}
+use mathlib.Core.Path.{◌≡◌, refl, sym, ap, ◌∙◌}
 use Rattle.refusal.specs.Determined.{Determined}
 use Rattle.refusal.proofs.Known.{refusal_known, agree_alone}
-use Rattle.framing.specs.declared.payload.PayloadVerdict.{PayloadVerdict}
-use Rattle.framing.specs.Payload.{Judgement}
-use Rattle.framing.proofs.Determined.{verdict_known}
-use Rattle.commands.specs.declared.identity.IdentityRead.{IdentityRead}
-use Rattle.commands.specs.declared.identity.IdentityRead.TheVariants.{Identity, Refused}
+use Rattle.std.specs.Prelude.{Result, Ok, Err}
+use Rattle.refusal.specs.declared.Refusal.{Refusal}
+use Rattle.commands.specs.declared.identity.DeviceIdentity.{DeviceIdentity}
 use Rattle.commands.specs.Identity.{identified_of}
 use Rattle.commands.specs.declared.reading.Reading.{Reading}
 use Rattle.commands.specs.declared.reading.Reading.TheVariants.{Good, Poor, Fixed, Bad, Absent}
@@ -23,11 +21,11 @@ use Rattle.commands.proofs.reading.Reading.of.Kinds as reading-of-kinds
 use Rattle.commands.proofs.reading.Reading.of.Reads as reading-of-reads
 
 -- an answer is known by what it says
-pub identity_known : (r s : IdentityRead) → identified_of r ≡ identified_of s → r ≡ s
-identity_known (Identity i) (Identity j) e = ap Identity (cc)
-identity_known (Identity i) (Refused s) e = cc
-identity_known (Refused r) (Identity j) e = cc
-identity_known (Refused r) (Refused s) e = ap Refused (refusal_known r s (cc) (cc))
+pub identity_known : (r s : Result DeviceIdentity Refusal) → identified_of r ≡ identified_of s → r ≡ s
+identity_known (Ok i) (Ok j) e = ap Ok (cc)
+identity_known (Ok i) (Err s) e = cc
+identity_known (Err r) (Ok j) e = cc
+identity_known (Err r) (Err s) e = ap Err (refusal_known r s (cc) (cc))
 
 pub device_identity_decode : Determined 1 device-identity-decode-kinds.ps device-identity-decode-kinds.r device-identity-decode-reads.Post (λ κs x. tt {0})
 device_identity_decode κs a r s x y = λ p q. (identity_known r s (p ∙ sym q), refl)
@@ -53,16 +51,16 @@ reading_back Absent = refl
 pub worth_known : (r s : Reading) → worth_of r ≡ worth_of s → r ≡ s
 worth_known r s e = sym (reading_back r) ∙ ap reading_of e ∙ reading_back s
 
-abbrev judgement_in : Fields → Judgement
-judgement_in (reads_fields judgement tag descriptor day month year) = judgement
+-- the tag, descriptor and date that fields hold
+abbrev read_in : Fields → TagDescriptorDate
+read_in (reads_fields judgement tag descriptor day month year) = record { tag = tag; descriptor = descriptor; day = day; month = month; year = year }
 
--- a tag, descriptor and date are made of their verdict and the other fields
-abbrev made : PayloadVerdict → Fields → TagDescriptorDate
-made verdict (reads_fields judgement tag descriptor day month year) = record { verdict = verdict; tag = tag; descriptor = descriptor; day = day; month = month; year = year }
-
--- so they are known by these
-pub fields_known : (r s : TagDescriptorDate) → fields_of r ≡ fields_of s → r ≡ s
-fields_known r s e = ap₂ made (verdict_known r.verdict s.verdict (ap judgement_in e)) e
+-- and a reading is known by its fields
+pub fields_known : (r s : Result TagDescriptorDate Refusal) → fields_of r ≡ fields_of s → r ≡ s
+fields_known (Ok r) (Ok s) e = ap (λ (f : Fields). Ok (read_in f)) e
+fields_known (Ok r) (Err s) e = cc
+fields_known (Err r) (Ok s) e = cc
+fields_known (Err r) (Err s) e = ap Err (refusal_known r s (cc) (cc))
 
 pub value_of : Determined 0 value-of-kinds.ps value-of-kinds.r value-of-reads.Post (λ κs x. tt {0})
 value_of κs a r s x y = agree_alone

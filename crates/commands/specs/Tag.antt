@@ -1,8 +1,10 @@
 -- Document 01, 'Commands': command 11; and document 02, 1/12: its request as a device reads it.
-use Rattle.std.specs.Prelude.{ℕ, cond, List, [], length, take, replicate, ltb}
+use Rattle.std.specs.Prelude.{ℕ, cond, List, [], length, take, replicate, ltb, Result, Ok, Err}
+use Rattle.refusal.specs.declared.Refusal.{Refusal}
+use Rattle.refusal.specs.Table.{number_of, values_of}
 use Rattle.refusal.specs.Outcome.{Outcome}
 use Rattle.packed_string.specs.declared.text_group.Mode.{Mode}
-use Rattle.framing.specs.Payload.{Judgement, carries, withheld, judgement_of, Reader}
+use Rattle.framing.specs.Payload.{Judgement, carries, withheld, Reader}
 use Rattle.commands.specs.Identity.{Identified, unidentified, identity}
 use Rattle.commands.specs.declared.read_unique_id_by_tag.ReadUniqueIdByTagRequest.{ReadUniqueIdByTagRequest}
 use Rattle.packed_string.specs.Modes.{packed_text, unpacked_text, fields_written}
@@ -20,14 +22,15 @@ command11 = record { number = 11; read = identity; refuse = unidentified }
 pub data Tagged : Type 0 where
   reads_tag : Judgement → List ℕ → Tagged
 
-abbrev pub tagged_of : ReadUniqueIdByTagRequest → Tagged
-tagged_of r = reads_tag (judgement_of r.verdict) r.tag
-
 abbrev pub no_tag_read : Judgement → Tagged
 no_tag_read judgement = reads_tag judgement (replicate tag_length 0)
 
 abbrev pub tag_refused : ℕ → List ℕ → Tagged
 tag_refused number values = no_tag_read (withheld number values)
+
+abbrev pub tagged_of : Result ReadUniqueIdByTagRequest Refusal → Tagged
+tagged_of (Ok r) = reads_tag carries r.tag
+tagged_of (Err r) = tag_refused (number_of r) (values_of r)
 
 -- 3 if there are fewer than 6 bytes; those past them are ignored
 unfoldable pub tag_read : Mode → List ℕ → Tagged

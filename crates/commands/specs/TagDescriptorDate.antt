@@ -1,9 +1,11 @@
 -- Document 01, 'Commands': command 18, whose request and response have one layout: a tag, a descriptor, day, month and year; and
 -- document 02, 1/12: command 13, whose response has it too.
-use Rattle.std.specs.Prelude.{ℕ, ◌+◌, cond, List, [], ◌∷◌, ◌++◌, length, get_or, take, drop, replicate, ltb}
+use Rattle.std.specs.Prelude.{ℕ, ◌+◌, cond, List, [], ◌∷◌, ◌++◌, length, get_or, take, drop, replicate, ltb, Result, Ok, Err}
+use Rattle.refusal.specs.declared.Refusal.{Refusal}
+use Rattle.refusal.specs.Table.{number_of, values_of}
 use Rattle.refusal.specs.Outcome.{Outcome}
 use Rattle.packed_string.specs.declared.text_group.Mode.{Mode}
-use Rattle.framing.specs.Payload.{Judgement, carries, withheld, judgement_of, Reader}
+use Rattle.framing.specs.Payload.{Judgement, carries, withheld, Reader}
 use Rattle.packed_string.specs.Modes.{packed_text, unpacked_text, fields_written}
 use Rattle.response.specs.Sizes.{tag_length, tag_size, descriptor_length, descriptor_size}
 use Rattle.commands.specs.declared.tag_descriptor_date.TagDescriptorDate.{TagDescriptorDate}
@@ -37,9 +39,6 @@ tag_descriptor_date_requested mode tag descriptor day month year buffer = fields
 pub data Fields : Type 0 where
   reads_fields : Judgement → List ℕ → List ℕ → ℕ → ℕ → ℕ → Fields
 
-abbrev pub fields_of : TagDescriptorDate → Fields
-fields_of r = reads_fields (judgement_of r.verdict) r.tag r.descriptor r.day r.month r.year
-
 abbrev pub fields_at : Mode → List ℕ → Fields
 fields_at mode bs =
     reads_fields carries (unpacked_text mode (take tag_size bs)) (unpacked_text mode (take descriptor_size (drop tag_size bs))) (get_or bs day_at 0) (get_or bs month_at 0) (get_or bs year_at 0)
@@ -49,6 +48,10 @@ no_fields_read judgement = reads_fields judgement (replicate tag_length 0) (repl
 
 abbrev pub fields_refused : ℕ → List ℕ → Fields
 fields_refused number values = no_fields_read (withheld number values)
+
+abbrev pub fields_of : Result TagDescriptorDate Refusal → Fields
+fields_of (Ok r) = reads_fields carries r.tag r.descriptor r.day r.month r.year
+fields_of (Err r) = fields_refused (number_of r) (values_of r)
 
 -- 3 if there are fewer than 21 bytes; those past them are ignored
 unfoldable pub fields_read : Mode → List ℕ → Fields

@@ -1,10 +1,12 @@
 -- Document 01, 'Commands': command 9; and document 02, 1/12: its request as a device reads it.
-use Rattle.std.specs.Prelude.{ℕ, zero, suc, ◌+◌, ◌*◌, ◌-◌, ◌/◌, min, cond, List, [], ◌∷◌, ◌++◌, length, get_or, take, drop, replicate, ltb}
+use Rattle.std.specs.Prelude.{ℕ, zero, suc, ◌+◌, ◌*◌, ◌-◌, ◌/◌, min, cond, List, [], ◌∷◌, ◌++◌, length, get_or, take, drop, replicate, ltb, Result, Ok, Err}
+use Rattle.refusal.specs.declared.Refusal.{Refusal}
+use Rattle.refusal.specs.Table.{number_of, values_of}
 use Rattle.refusal.specs.Outcome.{Outcome, wrote, refuses}
 use Rattle.octets.specs.Digits.{digits, from_digits}
 use Rattle.packed_string.specs.declared.text_group.Mode.{Mode}
 use Rattle.packed_string.specs.declared.text_group.Mode.TheVariants.{Crate, Standard}
-use Rattle.framing.specs.Payload.{Judgement, carries, withheld, judgement_of, Reader}
+use Rattle.framing.specs.Payload.{Judgement, carries, withheld, Reader}
 use Rattle.line.specs.machine.Frames.{padded}
 use Rattle.response.specs.Sizes.{most_variables, group_size}
 use Rattle.commands.specs.Worth.{float_of}
@@ -57,9 +59,6 @@ no_variable = variable 0 0 0 0 0
 pub data Variables : Type 0 where
   reads_variables : Judgement → ℕ → List DeviceVariable → Variables
 
-abbrev pub variables_of : ReadDeviceVarsResponse → Variables
-variables_of r = reads_variables (judgement_of r.verdict) r.count r.variables
-
 abbrev pub groups_read : List ℕ → Variables
 groups_read bs = let n = groups_of (length bs) in reads_variables carries n (first_variables bs n ++ replicate (most_variables - n) no_variable)
 
@@ -68,6 +67,10 @@ no_variables_read judgement = reads_variables judgement 0 (replicate most_variab
 
 abbrev pub variables_refused : ℕ → List ℕ → Variables
 variables_refused number values = no_variables_read (withheld number values)
+
+abbrev pub variables_of : Result ReadDeviceVarsResponse Refusal → Variables
+variables_of (Ok r) = reads_variables carries r.count r.variables
+variables_of (Err r) = variables_refused (number_of r) (values_of r)
 
 -- In the Rust's reading the groups begin at the first byte, and nothing is refused. In the standard one they begin behind a byte of
 -- extended status, and a payload that has not even this byte is refused with 3.
@@ -82,14 +85,15 @@ command9 mode = record { number = 9; read = variables_read mode; refuse = variab
 pub data Codes : Type 0 where
   reads_codes : Judgement → ℕ → List ℕ → Codes
 
-abbrev pub codes_of : ReadDeviceVarsRequest → Codes
-codes_of r = reads_codes (judgement_of r.verdict) r.count r.codes
-
 abbrev pub no_codes_read : Judgement → Codes
 no_codes_read judgement = reads_codes judgement 0 (replicate most_variables 0)
 
 abbrev pub codes_refused : ℕ → List ℕ → Codes
 codes_refused number values = no_codes_read (withheld number values)
+
+abbrev pub codes_of : Result ReadDeviceVarsRequest Refusal → Codes
+codes_of (Ok r) = reads_codes carries r.count r.codes
+codes_of (Err r) = codes_refused (number_of r) (values_of r)
 
 -- 3 without a code; the first eight count
 unfoldable pub codes_read : List ℕ → Codes

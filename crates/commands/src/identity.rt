@@ -7,7 +7,7 @@ ghost use Rattle.commands.specs.Responses.{identity_responded};
 ghost use Rattle.commands.specs.Identity.{identity_at, lowered_bytes, identified_of, identity, identity_reader};
 ghost use Rattle.response.specs.Sizes.{identity_size};
 
-use framing::{PayloadVerdict, payload_part, typed_verdict};
+use framing::typed_payload;
 use octets::{decode_u16_be, decode_u24_be, encode_u16_be, encode_u24_be};
 use refusal::Refusal;
 use response::{Field, IDENTITY_SIZE, ResponseFields, write_response};
@@ -25,12 +25,6 @@ pub struct DeviceIdentity {
     pub physical_signaling: u8,
     pub flags: u8,
     pub device_id: u32,
-}
-
-#[derive(Clone, Copy)]
-pub enum IdentityRead {
-    Identity(DeviceIdentity),
-    Refused(Refusal),
 }
 
 fn identity_at(data: &[u8]) -> DeviceIdentity
@@ -54,13 +48,13 @@ fn identity_at(data: &[u8]) -> DeviceIdentity
 
 impl DeviceIdentity {
     // Bytes past the twelfth are not looked at.
-    pub fn decode(data: &[u8]) -> IdentityRead
+    pub fn decode(data: &[u8]) -> Result<DeviceIdentity, Refusal>
         ensures { identified_of result ≡ identity «data».now }
     {
         if data.len() < IDENTITY_SIZE {
-            return IdentityRead::Refused(Refusal::BufferTooShort);
+            return Err(Refusal::BufferTooShort);
         }
-        IdentityRead::Identity(identity_at(data))
+        Ok(identity_at(data))
     }
 
     // The bits of a number that the line has no room for are lost.
@@ -92,14 +86,11 @@ pub(crate) fn read_identity(
     frame_type: FrameType,
     command: u8,
     data: &[u8],
-) -> IdentityRead
+) -> Result<DeviceIdentity, Refusal>
     ensures { identified_of result ≡ typed_in (identity_reader wanted) frame_type command «data».now }
 {
-    let verdict = typed_verdict(wanted, frame_type, command, data);
-    let PayloadVerdict::Refused(refusal) = verdict else {
-        return DeviceIdentity::decode(payload_part(frame_type, data));
-    };
-    IdentityRead::Refused(refusal)
+    let payload = typed_payload(wanted, frame_type, command, data)?;
+    DeviceIdentity::decode(payload)
 }
 
 // The response of commands 0 and 11.

@@ -11,7 +11,7 @@ mod reading;
 mod tag_descriptor_date;
 pub mod write_tag_descriptor_date;
 
-pub use identity::{DeviceIdentity, IdentityRead};
+pub use identity::DeviceIdentity;
 pub use packed_string::Mode;
 pub use reading::{Reading, value_of};
 pub use tag_descriptor_date::TagDescriptorDate;

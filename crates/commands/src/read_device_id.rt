@@ -7,8 +7,8 @@ ghost use Rattle.framing.specs.Requests.{asked, asked_of, no_data};
 ghost use Rattle.commands.specs.Identity.{identified_of, identity, command0};
 ghost use Rattle.commands.specs.Responses.{identity_responded};
 
-use crate::identity::{DeviceIdentity, IdentityRead, read_identity, write_identity};
-use framing::{Frame, PayloadVerdict, request_verdict};
+use crate::identity::{DeviceIdentity, read_identity, write_identity};
+use framing::{Frame, request_verdict};
 use refusal::Refusal;
 use types::FrameType;
 use types::consts::commands::READ_DEVICE_ID;
@@ -20,21 +20,21 @@ pub fn encode_data(buf: &mut [u8]) -> Result<usize, Refusal>
     Ok(0)
 }
 
-pub fn decode_data(data: &[u8]) -> IdentityRead
+pub fn decode_data(data: &[u8]) -> Result<DeviceIdentity, Refusal>
     ensures { identified_of result ≡ identity «data».now }
 {
     DeviceIdentity::decode(data)
 }
 
 // The identity that a frame carries, or why it carries none.
-pub fn read_frame(frame_type: FrameType, command: u8, data: &[u8]) -> IdentityRead
+pub fn read_frame(frame_type: FrameType, command: u8, data: &[u8]) -> Result<DeviceIdentity, Refusal>
     ensures { identified_of result ≡ typed_in command0 frame_type command «data».now }
 {
     read_identity(READ_DEVICE_ID, frame_type, command, data)
 }
 
 // The same of a frame that a decoder found: its data are the first `length` bytes of its array.
-pub fn read_response(frame: Frame) -> IdentityRead
+pub fn read_response(frame: Frame) -> Result<DeviceIdentity, Refusal>
     ensures { identified_of result ≡ typed_of command0 frame }
 {
     let frame_type = frame.frame_type;
@@ -44,14 +44,14 @@ pub fn read_response(frame: Frame) -> IdentityRead
 }
 
 // Whether a frame is this request, as a device reads it. There are no data to look at.
-pub fn read_request_frame(frame_type: FrameType, command: u8) -> PayloadVerdict
+pub fn read_request_frame(frame_type: FrameType, command: u8) -> Result<(), Refusal>
     ensures { judgement_of result ≡ asked 0 frame_type command }
 {
     request_verdict(READ_DEVICE_ID, frame_type, command)
 }
 
 // The same of a frame that a decoder found.
-pub fn read_request(frame: Frame) -> PayloadVerdict
+pub fn read_request(frame: Frame) -> Result<(), Refusal>
     ensures { judgement_of result ≡ asked_of (no_data 0) frame }
 {
     let frame_type = frame.frame_type;

@@ -1,20 +1,20 @@
 // Command 9 (commands/read_device_vars.rs): the request, the response in the Rust's reading and in the
 // standard one (ADDED), and the response straight from a frame; and the same from the device's side (document
 // 02, 1/12), whose responses have the standard layout.
-ghost use Rattle.std.specs.Prelude.{◌≡◌, ◌+◌, ◌≤◌, ◌<◌, length, get_or};
+ghost use Rattle.std.specs.Prelude.{Ok, ◌≡◌, ◌+◌, ◌≤◌, ◌<◌, length, get_or};
 ghost use Rattle.refusal.specs.Outcome.{ends, reply_of};
 ghost use Rattle.commands.specs.Worth.{worth_of, worth};
-ghost use Rattle.framing.specs.Payload.{judgement_of, typed_in, typed_of};
+ghost use Rattle.framing.specs.Payload.{typed_in, typed_of};
 ghost use Rattle.framing.specs.Requests.{asked_in, asked_of};
 ghost use Rattle.commands.specs.Responses.{variables_responded};
-ghost use Rattle.commands.specs.Variables.{codes_requested, variable_at, group_bytes, no_variable, groups_of, variables_of, no_variables_read, groups_read, variables_read, command9, codes_of, no_codes_read, codes_read, request9};
+ghost use Rattle.commands.specs.Variables.{codes_requested, variable_at, group_bytes, no_variable, groups_of, variables_of, groups_read, variables_read, command9, codes_of, codes_read, request9};
 ghost use Rattle.response.specs.Sizes.{most_variables, group_size};
 ghost use Rattle.response.specs.Field.{field_of};
 ghost use Rattle.response.specs.declared.field.Kind.TheVariants.{Group};
 ghost use Rattle.commands.specs.Code.{variables_fields};
 
 use crate::reading::{Reading, value_of};
-use framing::{Frame, PayloadVerdict, payload_part, request_verdict, typed_verdict};
+use framing::{Frame, request_verdict, typed_payload};
 use octets::{copy_into, decode_u32_be, encode_u32_be, least};
 use packed_string::Mode;
 use refusal::Refusal;
@@ -35,18 +35,16 @@ pub struct DeviceVariable {
     pub status: u8,
 }
 
-// The codes are the first `count`; zeros follow them, and stand beside a refusal.
+// The codes are the first `count`; zeros follow them.
 #[derive(Clone, Copy)]
 pub struct ReadDeviceVarsRequest {
-    pub verdict: PayloadVerdict,
     pub count: u8,
     pub codes: [u8; MAX_DEVICE_VARS],
 }
 
-// The variables are the first `count`; all zeros follow them, and stand beside a refusal.
+// The variables are the first `count`; all zeros follow them.
 #[derive(Clone, Copy)]
 pub struct ReadDeviceVarsResponse {
-    pub verdict: PayloadVerdict,
     pub count: u8,
     pub variables: [DeviceVariable; MAX_DEVICE_VARS],
 }
@@ -136,20 +134,9 @@ fn whole_groups(length: usize) -> usize
     }
 }
 
-fn refused(verdict: PayloadVerdict) -> ReadDeviceVarsResponse
-    ensures { variables_of result ≡ no_variables_read (judgement_of verdict) }
-{
-    let none = no_variable();
-    ReadDeviceVarsResponse {
-        verdict,
-        count: 0,
-        variables: [none; MAX_DEVICE_VARS],
-    }
-}
-
 // The whole groups from the front on, up to eight.
 fn decode_groups(data: &[u8]) -> ReadDeviceVarsResponse
-    ensures { variables_of result ≡ groups_read «data».now }
+    ensures { variables_of (Ok result) ≡ groups_read «data».now }
 {
     let none = no_variable();
     let mut variables = [none; MAX_DEVICE_VARS];
@@ -160,23 +147,20 @@ fn decode_groups(data: &[u8]) -> ReadDeviceVarsResponse
         i += 1;
     }
     ReadDeviceVarsResponse {
-        verdict: PayloadVerdict::Carried,
         count: n_vars as u8,
         variables,
     }
 }
 
 // Standard mode passes over the extended status byte in front of the groups, and needs it there.
-pub fn decode_data(mode: Mode, data: &[u8]) -> ReadDeviceVarsResponse
+pub fn decode_data(mode: Mode, data: &[u8]) -> Result<ReadDeviceVarsResponse, Refusal>
     ensures { variables_of result ≡ variables_read mode «data».now }
 {
     match mode {
-        Mode::Crate => decode_groups(data),
+        Mode::Crate => Ok(decode_groups(data)),
         Mode::Standard => {
-            if data.len() < 1 {
-                return refused(PayloadVerdict::Refused(Refusal::BufferTooShort));
-            }
-            decode_groups(&data[1..])
+            let (_, groups) = data.split_first().ok_or(Refusal::BufferTooShort)?;
+            Ok(decode_groups(groups))
         }
     }
 }
@@ -187,18 +171,15 @@ pub fn read_frame(
     frame_type: FrameType,
     command: u8,
     data: &[u8],
-) -> ReadDeviceVarsResponse
+) -> Result<ReadDeviceVarsResponse, Refusal>
     ensures { variables_of result ≡ typed_in (command9 mode) frame_type command «data».now }
 {
-    let verdict = typed_verdict(READ_DEVICE_VARS_WITH_STATUS, frame_type, command, data);
-    let PayloadVerdict::Carried = verdict else {
-        return refused(verdict);
-    };
-    decode_data(mode, payload_part(frame_type, data))
+    let payload = typed_payload(READ_DEVICE_VARS_WITH_STATUS, frame_type, command, data)?;
+    decode_data(mode, payload)
 }
 
 // The same of a frame that a decoder found: its data are the first `length` bytes of its array.
-pub fn read_response(mode: Mode, frame: Frame) -> ReadDeviceVarsResponse
+pub fn read_response(mode: Mode, frame: Frame) -> Result<ReadDeviceVarsResponse, Refusal>
     ensures { variables_of result ≡ typed_of (command9 mode) frame }
 {
     let frame_type = frame.frame_type;
@@ -207,46 +188,36 @@ pub fn read_response(mode: Mode, frame: Frame) -> ReadDeviceVarsResponse
     read_frame(mode, frame_type, frame.command, &data[0..length])
 }
 
-fn refused_request(verdict: PayloadVerdict) -> ReadDeviceVarsRequest
-    ensures { codes_of result ≡ no_codes_read (judgement_of verdict) }
-{
-    ReadDeviceVarsRequest {
-        verdict,
-        count: 0,
-        codes: [0u8; MAX_DEVICE_VARS],
-    }
-}
-
 // The first eight codes count, and those past them are not looked at.
-fn read_codes(data: &[u8]) -> ReadDeviceVarsRequest
+fn read_codes(data: &[u8]) -> Result<ReadDeviceVarsRequest, Refusal>
     ensures { codes_of result ≡ codes_read «data».now }
 {
     if data.len() < 1 {
-        return refused_request(PayloadVerdict::Refused(Refusal::BufferTooShort));
+        return Err(Refusal::BufferTooShort);
     }
     let count = least(MAX_DEVICE_VARS, data.len());
     let mut codes = [0u8; MAX_DEVICE_VARS];
     copy_into(&data[..count], &mut codes, 0);
-    ReadDeviceVarsRequest {
-        verdict: PayloadVerdict::Carried,
+    Ok(ReadDeviceVarsRequest {
         count: count as u8,
         codes,
-    }
+    })
 }
 
 // The codes of the variables that a request asks for, as a device reads them.
-pub fn read_request_frame(frame_type: FrameType, command: u8, data: &[u8]) -> ReadDeviceVarsRequest
+pub fn read_request_frame(
+    frame_type: FrameType,
+    command: u8,
+    data: &[u8],
+) -> Result<ReadDeviceVarsRequest, Refusal>
     ensures { codes_of result ≡ asked_in request9 frame_type command «data».now }
 {
-    let verdict = request_verdict(READ_DEVICE_VARS_WITH_STATUS, frame_type, command);
-    let PayloadVerdict::Carried = verdict else {
-        return refused_request(verdict);
-    };
+    request_verdict(READ_DEVICE_VARS_WITH_STATUS, frame_type, command)?;
     read_codes(data)
 }
 
 // The same of a frame that a decoder found.
-pub fn read_request(frame: Frame) -> ReadDeviceVarsRequest
+pub fn read_request(frame: Frame) -> Result<ReadDeviceVarsRequest, Refusal>
     ensures { codes_of result ≡ asked_of request9 frame }
 {
     let frame_type = frame.frame_type;

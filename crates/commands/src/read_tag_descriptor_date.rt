@@ -10,7 +10,7 @@ ghost use Rattle.commands.specs.TagDescriptorDate.{fields_of, fields_read, comma
 use crate::tag_descriptor_date::{
     TagDescriptorDate, read_layout, read_texts, write_texts_and_date,
 };
-use framing::{Frame, PayloadVerdict, request_verdict};
+use framing::{Frame, request_verdict};
 use packed_string::Mode;
 use refusal::Refusal;
 use response::{DESCRIPTOR_LENGTH, TAG_LENGTH};
@@ -24,21 +24,21 @@ pub fn encode_data(buf: &mut [u8]) -> Result<usize, Refusal>
     Ok(0)
 }
 
-pub fn decode_data(mode: Mode, data: &[u8]) -> TagDescriptorDate
+pub fn decode_data(mode: Mode, data: &[u8]) -> Result<TagDescriptorDate, Refusal>
     ensures { fields_of result ≡ fields_read mode «data».now }
 {
     read_layout(mode, data)
 }
 
 // The response that a frame carries, or why it carries none.
-pub fn read_frame(mode: Mode, frame_type: FrameType, command: u8, data: &[u8]) -> TagDescriptorDate
+pub fn read_frame(mode: Mode, frame_type: FrameType, command: u8, data: &[u8]) -> Result<TagDescriptorDate, Refusal>
     ensures { fields_of result ≡ typed_in (command13 mode) frame_type command «data».now }
 {
     read_texts(READ_TAG_DESCRIPTOR_DATE, mode, frame_type, command, data)
 }
 
 // The same of a frame that a decoder found: its data are the first `length` bytes of its array.
-pub fn read_response(mode: Mode, frame: Frame) -> TagDescriptorDate
+pub fn read_response(mode: Mode, frame: Frame) -> Result<TagDescriptorDate, Refusal>
     ensures { fields_of result ≡ typed_of (command13 mode) frame }
 {
     let frame_type = frame.frame_type;
@@ -48,14 +48,14 @@ pub fn read_response(mode: Mode, frame: Frame) -> TagDescriptorDate
 }
 
 // Whether a frame is this request, as a device reads it. There are no data to look at.
-pub fn read_request_frame(frame_type: FrameType, command: u8) -> PayloadVerdict
+pub fn read_request_frame(frame_type: FrameType, command: u8) -> Result<(), Refusal>
     ensures { judgement_of result ≡ asked 13 frame_type command }
 {
     request_verdict(READ_TAG_DESCRIPTOR_DATE, frame_type, command)
 }
 
 // The same of a frame that a decoder found.
-pub fn read_request(frame: Frame) -> PayloadVerdict
+pub fn read_request(frame: Frame) -> Result<(), Refusal>
     ensures { judgement_of result ≡ asked_of (no_data 13) frame }
 {
     let frame_type = frame.frame_type;

@@ -3,26 +3,24 @@
 // 02, 1/12).
 ghost use Rattle.std.specs.Prelude.{◌≡◌};
 ghost use Rattle.refusal.specs.Outcome.{ends, reply_of};
-ghost use Rattle.framing.specs.Payload.{judgement_of, typed_in, typed_of};
+ghost use Rattle.framing.specs.Payload.{typed_in, typed_of};
 ghost use Rattle.framing.specs.Requests.{asked_in, asked_of};
 ghost use Rattle.commands.specs.Identity.{identified_of, identity};
 ghost use Rattle.packed_string.specs.Modes.{unpacked_text};
-ghost use Rattle.commands.specs.Tag.{tag_requested, command11, tagged_of, no_tag_read, tag_read, request11};
+ghost use Rattle.commands.specs.Tag.{tag_requested, command11, tagged_of, tag_read, request11};
 ghost use Rattle.commands.specs.Responses.{identity_responded};
 
-use crate::identity::{DeviceIdentity, IdentityRead, read_identity, write_identity};
+use crate::identity::{DeviceIdentity, read_identity, write_identity};
 use crate::tag_descriptor_date::TAG_SIZE;
-use framing::{Frame, PayloadVerdict, request_verdict};
+use framing::{Frame, request_verdict};
 use packed_string::{Mode, decode_in, encode_in};
 use refusal::Refusal;
 use response::TAG_LENGTH;
 use types::FrameType;
 use types::consts::commands::READ_UNIQUE_ID_BY_TAG;
 
-// Beside a refusal every byte is zero.
 #[derive(Clone, Copy)]
 pub struct ReadUniqueIdByTagRequest {
-    pub verdict: PayloadVerdict,
     pub tag: [u8; TAG_LENGTH],
 }
 
@@ -36,7 +34,7 @@ pub fn encode_data(mode: Mode, tag: [u8; TAG_LENGTH], buf: &mut [u8]) -> Result<
     encode_in(mode, &tag, &mut buf[..TAG_SIZE])
 }
 
-pub fn decode_data(data: &[u8]) -> IdentityRead
+pub fn decode_data(data: &[u8]) -> Result<DeviceIdentity, Refusal>
     ensures { identified_of result ≡ identity «data».now }
 {
     DeviceIdentity::decode(data)
@@ -52,14 +50,14 @@ pub fn decode_tag(mode: Mode, packed: [u8; TAG_SIZE]) -> [u8; TAG_LENGTH]
 }
 
 // The identity that a frame carries, or why it carries none.
-pub fn read_frame(frame_type: FrameType, command: u8, data: &[u8]) -> IdentityRead
+pub fn read_frame(frame_type: FrameType, command: u8, data: &[u8]) -> Result<DeviceIdentity, Refusal>
     ensures { identified_of result ≡ typed_in command11 frame_type command «data».now }
 {
     read_identity(READ_UNIQUE_ID_BY_TAG, frame_type, command, data)
 }
 
 // The same of a frame that a decoder found: its data are the first `length` bytes of its array.
-pub fn read_response(frame: Frame) -> IdentityRead
+pub fn read_response(frame: Frame) -> Result<DeviceIdentity, Refusal>
     ensures { identified_of result ≡ typed_of command11 frame }
 {
     let frame_type = frame.frame_type;
@@ -68,28 +66,16 @@ pub fn read_response(frame: Frame) -> IdentityRead
     read_frame(frame_type, frame.command, &data[0..length])
 }
 
-fn refused(verdict: PayloadVerdict) -> ReadUniqueIdByTagRequest
-    ensures { tagged_of result ≡ no_tag_read (judgement_of verdict) }
-{
-    ReadUniqueIdByTagRequest {
-        verdict,
-        tag: [0u8; TAG_LENGTH],
-    }
-}
-
 // Bytes past the packed tag are not looked at.
-fn read_tag(mode: Mode, data: &[u8]) -> ReadUniqueIdByTagRequest
+fn read_tag(mode: Mode, data: &[u8]) -> Result<ReadUniqueIdByTagRequest, Refusal>
     ensures { tagged_of result ≡ tag_read mode «data».now }
 {
     if data.len() < TAG_SIZE {
-        return refused(PayloadVerdict::Refused(Refusal::BufferTooShort));
+        return Err(Refusal::BufferTooShort);
     }
     let mut tag = [0x20u8; TAG_LENGTH];
     let _ = decode_in(mode, &data[0..TAG_SIZE], &mut tag);
-    ReadUniqueIdByTagRequest {
-        verdict: PayloadVerdict::Carried,
-        tag,
-    }
+    Ok(ReadUniqueIdByTagRequest { tag })
 }
 
 // The tag that a request asks for, as a device reads it.
@@ -98,18 +84,15 @@ pub fn read_request_frame(
     frame_type: FrameType,
     command: u8,
     data: &[u8],
-) -> ReadUniqueIdByTagRequest
+) -> Result<ReadUniqueIdByTagRequest, Refusal>
     ensures { tagged_of result ≡ asked_in (request11 mode) frame_type command «data».now }
 {
-    let verdict = request_verdict(READ_UNIQUE_ID_BY_TAG, frame_type, command);
-    let PayloadVerdict::Carried = verdict else {
-        return refused(verdict);
-    };
+    request_verdict(READ_UNIQUE_ID_BY_TAG, frame_type, command)?;
     read_tag(mode, data)
 }
 
 // The same of a frame that a decoder found.
-pub fn read_request(mode: Mode, frame: Frame) -> ReadUniqueIdByTagRequest
+pub fn read_request(mode: Mode, frame: Frame) -> Result<ReadUniqueIdByTagRequest, Refusal>
     ensures { tagged_of result ≡ asked_of (request11 mode) frame }
 {
     let frame_type = frame.frame_type;

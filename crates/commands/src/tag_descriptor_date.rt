@@ -2,13 +2,13 @@
 ghost use Rattle.std.specs.Prelude.{◌≡◌, ◌++◌, ◌≤◌, length};
 ghost use Rattle.refusal.specs.Outcome.{ends, reply_of};
 ghost use Rattle.octets.specs.Put.{put};
-ghost use Rattle.framing.specs.Payload.{judgement_of, typed_in};
+ghost use Rattle.framing.specs.Payload.{typed_in};
 ghost use Rattle.packed_string.specs.Modes.{bad_in};
 ghost use Rattle.commands.specs.Code.{texts_fields};
 ghost use Rattle.commands.specs.Responses.{tag_descriptor_date_responded};
-ghost use Rattle.commands.specs.TagDescriptorDate.{texts_length, layout_size, tag_descriptor_date_layout, fields_of, no_fields_read, fields_read, texts_reader};
+ghost use Rattle.commands.specs.TagDescriptorDate.{texts_length, layout_size, tag_descriptor_date_layout, fields_of, fields_read, texts_reader};
 
-use framing::{PayloadVerdict, payload_part, typed_verdict};
+use framing::typed_payload;
 use packed_string::{Mode, bad_place_in, decode_in, encode_in};
 use refusal::Refusal;
 use response::{DESCRIPTOR_LENGTH, Field, ResponseFields, TAG_LENGTH, write_response};
@@ -31,10 +31,8 @@ const YEAR_AT: usize = MONTH_AT + 1;
 
 pub(crate) const LAYOUT_SIZE: usize = YEAR_AT + 1;
 
-// Beside a refusal every byte is zero.
 #[derive(Clone, Copy)]
 pub struct TagDescriptorDate {
-    pub verdict: PayloadVerdict,
     pub tag: [u8; TAG_LENGTH],
     pub descriptor: [u8; DESCRIPTOR_LENGTH],
     pub day: u8,
@@ -77,38 +75,24 @@ pub(crate) fn write_layout(
     buf[YEAR_AT] = year;
 }
 
-pub(crate) fn refused(verdict: PayloadVerdict) -> TagDescriptorDate
-    ensures { fields_of result ≡ no_fields_read (judgement_of verdict) }
-{
-    TagDescriptorDate {
-        verdict,
-        tag: [0u8; TAG_LENGTH],
-        descriptor: [0u8; DESCRIPTOR_LENGTH],
-        day: 0,
-        month: 0,
-        year: 0,
-    }
-}
-
 // Bytes past the layout are not looked at.
-pub(crate) fn read_layout(mode: Mode, data: &[u8]) -> TagDescriptorDate
+pub(crate) fn read_layout(mode: Mode, data: &[u8]) -> Result<TagDescriptorDate, Refusal>
     ensures { fields_of result ≡ fields_read mode «data».now }
 {
     if data.len() < LAYOUT_SIZE {
-        return refused(PayloadVerdict::Refused(Refusal::BufferTooShort));
+        return Err(Refusal::BufferTooShort);
     }
     let mut tag = [0x20u8; TAG_LENGTH];
     let _ = decode_in(mode, &data[0..TAG_SIZE], &mut tag);
     let mut descriptor = [0x20u8; DESCRIPTOR_LENGTH];
     let _ = decode_in(mode, &data[TAG_SIZE..DAY_AT], &mut descriptor);
-    TagDescriptorDate {
-        verdict: PayloadVerdict::Carried,
+    Ok(TagDescriptorDate {
         tag,
         descriptor,
         day: data[DAY_AT],
         month: data[MONTH_AT],
         year: data[YEAR_AT],
-    }
+    })
 }
 
 // The fields that a frame carries for a command that has this layout, or why it carries none.
@@ -118,14 +102,11 @@ pub(crate) fn read_texts(
     frame_type: FrameType,
     command: u8,
     data: &[u8],
-) -> TagDescriptorDate
+) -> Result<TagDescriptorDate, Refusal>
     ensures { fields_of result ≡ typed_in (texts_reader wanted mode) frame_type command «data».now }
 {
-    let verdict = typed_verdict(wanted, frame_type, command, data);
-    let PayloadVerdict::Carried = verdict else {
-        return refused(verdict);
-    };
-    read_layout(mode, payload_part(frame_type, data))
+    let payload = typed_payload(wanted, frame_type, command, data)?;
+    read_layout(mode, payload)
 }
 
 // The fields of the response of commands 13 and 18.

@@ -10,9 +10,9 @@ ghost use Rattle.commands.specs.TagDescriptorDate.{tag_descriptor_date_requested
 
 use crate::tag_descriptor_date::{
     LAYOUT_SIZE, TEXTS_LENGTH, TagDescriptorDate, bad_place_in_texts, read_layout, read_texts,
-    refused, write_layout, write_texts_and_date,
+    write_layout, write_texts_and_date,
 };
-use framing::{Frame, PayloadVerdict, request_verdict};
+use framing::{Frame, request_verdict};
 use packed_string::Mode;
 use refusal::Refusal;
 use response::{DESCRIPTOR_LENGTH, TAG_LENGTH};
@@ -42,21 +42,21 @@ pub fn encode_data(
     Ok(LAYOUT_SIZE)
 }
 
-pub fn decode_data(mode: Mode, data: &[u8]) -> TagDescriptorDate
+pub fn decode_data(mode: Mode, data: &[u8]) -> Result<TagDescriptorDate, Refusal>
     ensures { fields_of result ≡ fields_read mode «data».now }
 {
     read_layout(mode, data)
 }
 
 // The response that a frame carries, or why it carries none.
-pub fn read_frame(mode: Mode, frame_type: FrameType, command: u8, data: &[u8]) -> TagDescriptorDate
+pub fn read_frame(mode: Mode, frame_type: FrameType, command: u8, data: &[u8]) -> Result<TagDescriptorDate, Refusal>
     ensures { fields_of result ≡ typed_in (command18 mode) frame_type command «data».now }
 {
     read_texts(WRITE_TAG_DESCRIPTOR_DATE, mode, frame_type, command, data)
 }
 
 // The same of a frame that a decoder found: its data are the first `length` bytes of its array.
-pub fn read_response(mode: Mode, frame: Frame) -> TagDescriptorDate
+pub fn read_response(mode: Mode, frame: Frame) -> Result<TagDescriptorDate, Refusal>
     ensures { fields_of result ≡ typed_of (command18 mode) frame }
 {
     let frame_type = frame.frame_type;
@@ -71,18 +71,15 @@ pub fn read_request_frame(
     frame_type: FrameType,
     command: u8,
     data: &[u8],
-) -> TagDescriptorDate
+) -> Result<TagDescriptorDate, Refusal>
     ensures { fields_of result ≡ asked_in (command18 mode) frame_type command «data».now }
 {
-    let verdict = request_verdict(WRITE_TAG_DESCRIPTOR_DATE, frame_type, command);
-    let PayloadVerdict::Carried = verdict else {
-        return refused(verdict);
-    };
+    request_verdict(WRITE_TAG_DESCRIPTOR_DATE, frame_type, command)?;
     read_layout(mode, data)
 }
 
 // The same of a frame that a decoder found.
-pub fn read_request(mode: Mode, frame: Frame) -> TagDescriptorDate
+pub fn read_request(mode: Mode, frame: Frame) -> Result<TagDescriptorDate, Refusal>
     ensures { fields_of result ≡ asked_of (command18 mode) frame }
 {
     let frame_type = frame.frame_type;

@@ -10,8 +10,7 @@ use Rattle.types.specs.declared.delimiter.FrameType.TheVariants.{Response}
 use Rattle.line.specs.Pieces.{enough}
 use Rattle.line.specs.Encode.{encoded}
 use Rattle.line.specs.declared.frame.Frame.{Frame}
-use Rattle.device.specs.declared.Said.{Said}
-use Rattle.device.specs.declared.Said.TheVariants.{Nothing, First}
+use Rattle.std.specs.Prelude.{Option, Some, None}
 use Rattle.device.specs.Device.{Spoken, status_alone, told_to, answer_to, spoken_to, answering}
 use Rattle.device.specs.Code.{spoken_by}
 
@@ -19,13 +18,13 @@ pub told_other : (command : ℕ) (ds : List ℕ) → command ≢ 0 → command �
 unfolding told_to
 told_other command ds h0 h9 h11 h13 h18 = rw (ne_eqb command 0 h0, ne_eqb command 9 h9, ne_eqb command 11 h11, ne_eqb command 13 h13, ne_eqb command 18 h18)
 
-module _ (f : Frame) (out payload : List ℕ) {said : Said} where
-  answered_by : {s : Said} → said ≡ s → spoken_by said payload ≡ answer_to f → spoken_to f (spoken_by s payload) out ≡ answering f out
+module _ (f : Frame) (out payload : List ℕ) {said : Option ℕ} where
+  answered_by : {s : Option ℕ} → said ≡ s → spoken_by said payload ≡ answer_to f → spoken_to f (spoken_by s payload) out ≡ answering f out
   unfolding answering
-  answered_by e told = ap (λ (x : Spoken). spoken_to f x out) (ap (λ (x : Said). spoken_by x payload) (sym e) ∙ told)
+  answered_by e told = ap (λ (x : Spoken). spoken_to f x out) (ap (λ (x : Option ℕ). spoken_by x payload) (sym e) ∙ told)
 
-  pub answers_nothing : said ≡ Nothing → spoken_by said payload ≡ answer_to f → ends (done (0 ∷ [])) out ≡ answering f out
+  pub answers_nothing : said ≡ None → spoken_by said payload ≡ answer_to f → ends (done (0 ∷ [])) out ≡ answering f out
   answers_nothing e told = answered_by e told
 
-  pub answers_first : {n : ℕ} → said ≡ First n → spoken_by said payload ≡ answer_to f → encoded Response f.address f.command (take n payload) enough out ≡ answering f out
+  pub answers_first : {n : ℕ} → said ≡ Some n → spoken_by said payload ≡ answer_to f → encoded Response f.address f.command (take n payload) enough out ≡ answering f out
   answers_first e told = answered_by e told

@@ -21,7 +21,9 @@ use Rattle.framing.specs.RoundTrip.{Handed, frame_back}
 use Rattle.framing.specs.Bench.{Sent, Hears}
 use Rattle.framing.proofs.Bench.{bench_answered}
 use Rattle.response.specs.Sizes.{groups_end}
-use Rattle.commands.specs.declared.identity.IdentityRead.{IdentityRead}
+use Rattle.std.specs.Prelude.{Result}
+use Rattle.refusal.specs.declared.Refusal.{Refusal}
+use Rattle.commands.specs.declared.identity.DeviceIdentity.{DeviceIdentity}
 use Rattle.commands.specs.Identity.{lowered_bytes, lowered, identified, identified_of, command0}
 use Rattle.commands.specs.Responses.{response_data, identity_responded}
 use Rattle.commands.proofs.Leaves.{identity_leaves}
@@ -103,5 +105,5 @@ module _ (f : Frame) (asks : f.frame_type ≡ Request) (zero : f.command ≡ 0) 
     pub answer_heard_lem : Hears replied count after
     answer_heard_lem = (bench_answered sent command0 zero 0 (lowered_bytes own_identity) (identity_leaves 0 0 own_identity) other_type).heard
 
-    pub answer_read : (r : IdentityRead) → response-0.Post tt (frame_back replied, tt) r (frame_back replied, tt) → identified_of r ≡ identified own_identity
+    pub answer_read : (r : Result DeviceIdentity Refusal) → response-0.Post tt (frame_back replied, tt) r (frame_back replied, tt) → identified_of r ≡ identified own_identity
     answer_read r promised = bench_answered_0 replied 0 other_type own_identity sent zero r promised ∙ ap identified own_lowered

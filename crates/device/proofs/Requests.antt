@@ -12,19 +12,16 @@ use Rattle.packed_string.specs.Modes.{unpacked_text, bad_in}
 use Rattle.types.specs.declared.delimiter.FrameType.TheVariants.{Request}
 use Rattle.line.specs.declared.frame.Frame.{Frame}
 use Rattle.line.specs.machine.Frames.{padded}
-use Rattle.framing.specs.declared.payload.PayloadVerdict.{PayloadVerdict}
-use Rattle.framing.specs.declared.payload.PayloadVerdict.TheVariants.{Refused}
+use Rattle.std.specs.Prelude.{None, Result, Ok, Err}
+use Rattle.std.specs.Result.{result_ok}
 use Rattle.framing.specs.Payload.{Judgement, carries, judgement_of, Reader, data_of}
 use Rattle.framing.specs.Requests.{asked_of, no_data}
 use Rattle.framing.proofs.Requests.{asked_carried}
 use Rattle.response.specs.Sizes.{tag_size, descriptor_size, most_variables}
-use Rattle.commands.specs.declared.read_device_vars.ReadDeviceVarsRequest.{ReadDeviceVarsRequest}
-use Rattle.commands.specs.declared.read_unique_id_by_tag.ReadUniqueIdByTagRequest.{ReadUniqueIdByTagRequest}
 use Rattle.commands.specs.declared.tag_descriptor_date.TagDescriptorDate.{TagDescriptorDate}
-use Rattle.commands.specs.Tag.{Tagged, reads_tag, tagged_of}
-use Rattle.commands.specs.TagDescriptorDate.{layout_size, Fields, reads_fields, fields_of, fields_at, fields_refused, fields_read}
-use Rattle.commands.specs.Variables.{Codes, reads_codes, codes_of, codes_refused, codes_read}
-use Rattle.device.specs.Device.{Spoken, keeps_silent, measures, recognizes, rewrites}
+use Rattle.commands.specs.TagDescriptorDate.{layout_size, fields_of, fields_at, fields_refused, fields_read}
+use Rattle.commands.specs.Variables.{reads_codes, codes_refused, codes_read}
+use Rattle.device.specs.Device.{Spoken}
 use Rattle.device.proofs.Texts.{texts_good}
 
 -- a request of the command that its reader is for: its data are read
@@ -33,22 +30,16 @@ unfolding asked_of
 request_read k f t n e = e ∙ asked_carried k f.frame_type f.command (data_of f) n t
 
 -- of a command without data there is nothing to refuse
-pub never_refused : (number : ℕ) (f : Frame) {v : PayloadVerdict} {r : Refusal} → f.frame_type ≡ Request → f.command ≡ number → judgement_of v ≡ asked_of (no_data number) f → v ≡ Refused r → (x : Spoken) → keeps_silent ≡ x
-never_refused number f {v} {r} t n e told x =
-    let carried : judgement_of v ≡ carries = request_read (no_data number) f t n e in
-    let refused : judgement_of (Refused r) ≡ carries = ap judgement_of (sym told) ∙ carried in
-    cc
+pub never_refused : (number : ℕ) (f : Frame) (v : Result (Unit {0}) Refusal) → f.frame_type ≡ Request → f.command ≡ number → judgement_of v ≡ asked_of (no_data number) f → result_ok v ≡ None → ⊥
+never_refused number f v t n e told = by v (request_read (no_data number) f t n e) told
+  where
+    by : (w : Result (Unit {0}) Refusal) → judgement_of w ≡ carries → result_ok w ≡ None → ⊥
+    by (Ok _) carried none = cc
+    by (Err r) carried none = cc
 
--- what was read, by the verdict
-module _ {judgement : Judgement} where
-  pub codes_by : (r : ReadDeviceVarsRequest) {c : Codes} → codes_of r ≡ c → judgement_of r.verdict ≡ judgement → measures (reads_codes judgement r.count r.codes) ≡ measures c
-  codes_by r e j = ap (λ (x : Judgement). measures (reads_codes x r.count r.codes)) (sym j) ∙ ap measures e
-
-  pub tag_by : (r : ReadUniqueIdByTagRequest) {c : Tagged} → tagged_of r ≡ c → judgement_of r.verdict ≡ judgement → recognizes (reads_tag judgement r.tag) ≡ recognizes c
-  tag_by r e j = ap (λ (x : Judgement). recognizes (reads_tag x r.tag)) (sym j) ∙ ap recognizes e
-
-  pub fields_by : (r : TagDescriptorDate) {c : Fields} → fields_of r ≡ c → judgement_of r.verdict ≡ judgement → rewrites (reads_fields judgement r.tag r.descriptor r.day r.month r.year) ≡ rewrites c
-  fields_by r e j = ap (λ (x : Judgement). rewrites (reads_fields x r.tag r.descriptor r.day r.month r.year)) (sym j) ∙ ap rewrites e
+-- what is said of a reading, by whether there is one
+pub said_of : {A B : Type 0} (reading : Result A Refusal → B) (says : B → Spoken) {r s : Result A Refusal} {b : B} → reading r ≡ b → r ≡ s → says (reading s) ≡ says b
+said_of reading says e told = ap says (ap reading (sym told) ∙ e)
 
 -- no more than eight codes are counted
 pub codes_few : (ds : List ℕ) {judgement : Judgement} {n : ℕ} {codes : List ℕ} → reads_codes judgement n codes ≡ codes_read ds → n ≤ most_variables
@@ -60,11 +51,11 @@ codes_few ds {judgement} {n} {codes} = by (ltb (length ds) 1)
     by false e = let z : n ≡ min most_variables (length ds) = cc in omega arith
 
 -- what was unpacked has a code for each character
-pub fields_good : (ds : List ℕ) (r : TagDescriptorDate) → fields_of r ≡ fields_read Standard ds → judgement_of r.verdict ≡ carries → length (r.tag ++ r.descriptor) ≤ bad_in Standard (r.tag ++ r.descriptor)
+pub fields_good : (ds : List ℕ) (r : TagDescriptorDate) → fields_of (Ok r) ≡ fields_read Standard ds → length (r.tag ++ r.descriptor) ≤ bad_in Standard (r.tag ++ r.descriptor)
 unfolding fields_read
-fields_good ds r e j = by (ltb (length ds) layout_size) e
+fields_good ds r = by (ltb (length ds) layout_size)
   where
-    by : (short : Bool) → fields_of r ≡ cond short (fields_refused 3 []) (fields_at Standard ds) → length (r.tag ++ r.descriptor) ≤ bad_in Standard (r.tag ++ r.descriptor)
+    by : (short : Bool) → fields_of (Ok r) ≡ cond short (fields_refused 3 []) (fields_at Standard ds) → length (r.tag ++ r.descriptor) ≤ bad_in Standard (r.tag ++ r.descriptor)
     by true f = let z : ◌≡◌ {A = ℕ} 0 1 = cc in absurd (omega arith)
     by false f =
         let t : r.tag ≡ unpacked_text Standard (take tag_size ds) = cc in

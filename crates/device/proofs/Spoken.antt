@@ -5,7 +5,8 @@ use mathlib.Core.Path.{◌≡◌, refl, sym, ap, ◌∙◌}
 use mathlib.Core.List.{List, [], ◌∷◌, ◌++◌}
 use lib.ListN.{length, get_or, take, set}
 use borrow.Author.Tests.{le-ltb}
-use Rattle.std.specs.Prelude.{Result, Ok, Err}
+use Rattle.std.specs.Prelude.{Option, Result, Ok, Err}
+use Rattle.std.specs.Result.{result_ok}
 use Rattle.refusal.specs.declared.Refusal.{Refusal}
 use Rattle.refusal.specs.Outcome.{Outcome, ends, reply_of, wrote}
 use Rattle.refusal.proofs.Leaves.{leaves_wrote}
@@ -20,14 +21,13 @@ use Rattle.commands.specs.Identity.{lowered_bytes}
 use Rattle.commands.specs.TagDescriptorDate.{layout_size, tag_descriptor_date_layout}
 use Rattle.commands.specs.Variables.{group_bytes, no_variable}
 use Rattle.commands.specs.Responses.{response_data, response_written, identity_responded, groups_bytes, variables_responded, tag_descriptor_date_responded}
-use Rattle.device.specs.declared.Said.{Said}
 use Rattle.device.specs.Device.{speaks}
-use Rattle.device.specs.Code.{said_in, spoken_by}
+use Rattle.device.specs.Code.{spoken_by}
 
-pub spoken_wrote : (r : Result ℕ Refusal) {said : Said} {payload : List ℕ} (ds before : List ℕ) {outcome : Outcome} → said ≡ said_in r → ends (reply_of r) payload ≡ outcome → outcome ≡ wrote ds before → spoken_by said payload ≡ speaks ds
-spoken_wrote r {payload = payload} ds before s e f = ap (λ (x : Said). spoken_by x payload) s ∙ by r (e ∙ f)
+pub spoken_wrote : (r : Result ℕ Refusal) {said : Option ℕ} {payload : List ℕ} (ds before : List ℕ) {outcome : Outcome} → said ≡ result_ok r → ends (reply_of r) payload ≡ outcome → outcome ≡ wrote ds before → spoken_by said payload ≡ speaks ds
+spoken_wrote r {payload = payload} ds before s e f = ap (λ (x : Option ℕ). spoken_by x payload) s ∙ by r (e ∙ f)
   where
-    by : (w : Result ℕ Refusal) → ends (reply_of w) payload ≡ wrote ds before → spoken_by (said_in w) payload ≡ speaks ds
+    by : (w : Result ℕ Refusal) → ends (reply_of w) payload ≡ wrote ds before → spoken_by (result_ok w) payload ≡ speaks ds
     by (Ok n) g = ap speaks (leaves_wrote ds before n payload (sym g))
     by (Err x) g = cc
 

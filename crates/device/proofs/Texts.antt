@@ -1,15 +1,12 @@
--- Two texts compared character by character, from a place on; and texts that have a code for each character.
-use Prim.Native.Nat.{ℕ, zero, suc, ◌+◌, ◌/◌, ◌≤◌, ◌<◌}
-use native.Mathlib.Numerals.{add-one}
+-- Two texts compared character by character; and texts that have a code for each character.
+use Prim.Native.Nat.{ℕ, zero, suc, ◌/◌, ◌≤◌}
 use native.Mathlib.Omega.{arith}
-use mathlib.Core.Path.{◌≡◌, sym, ap, ap₂, ◌∙◌}
-use mathlib.Core.Logic.{◌≢◌}
-use mathlib.Core.Bool.{true, false, ◌&&◌}
+use mathlib.Core.Path.{◌≡◌, refl, ap}
+use mathlib.Core.Bool.{Bool, ◌&&◌}
 use mathlib.Core.List.{List, [], ◌∷◌, ◌++◌}
 use lib.Dec.{eqb, lit≤}
-use lib.ListN.{length, get_or, drop, drop_of_length-le}
-use lib.Seq.{drop-cons}
-use borrow.Author.Tests.{eq-eqb, ne_eqb}
+use lib.ListN.{length}
+use lib.Pointwise.{pointwise}
 use Rattle.octets.specs.Digits.{from_digits}
 use Rattle.octets.proofs.Parts.{parts_zero, parts_suc}
 use Rattle.packed_string.specs.declared.text_group.Mode.TheVariants.{Standard}
@@ -22,18 +19,12 @@ use Rattle.packed_string.proofs.RoundTrip.{back_coded}
 use Rattle.device.specs.Own.{own_tag, own_descriptor}
 use Rattle.device.specs.Device.{same_text}
 
-module _ (s t : List ℕ) (i : ℕ) (h : i < length s) (k : i < length t) where
-  from_here : same_text (drop i s) (drop i t) ≡ eqb (get_or s i 0) (get_or t i 0) && same_text (drop (suc i) s) (drop (suc i) t)
-  from_here = ap₂ same_text (drop-cons s i 0 h) (drop-cons t i 0 k)
-
-  pub other_here : get_or s i 0 ≢ get_or t i 0 → same_text (drop i s) (drop i t) ≡ false
-  other_here n = from_here ∙ rw (ne_eqb (get_or s i 0) (get_or t i 0) n)
-
-  pub same_here : get_or s i 0 ≡ get_or t i 0 → same_text (drop (i + 1) s) (drop (i + 1) t) ≡ same_text (drop i s) (drop i t)
-  same_here e = ap (λ (n : ℕ). same_text (drop n s) (drop n t)) (add-one i) ∙ sym (from_here ∙ rw (eq-eqb (get_or s i 0) (get_or t i 0) e))
-
-pub same_past : (s t : List ℕ) (i : ℕ) → length s ≤ i → length t ≤ i → same_text (drop i s) (drop i t) ≡ true
-same_past s t i h k = ap₂ same_text (drop_of_length-le s h) (drop_of_length-le t k)
+-- texts are compared as `==` compares arrays
+pub same_pointwise : (s t : List ℕ) → pointwise eqb s t ≡ same_text s t
+same_pointwise [] [] = refl
+same_pointwise [] (d ∷ t) = refl
+same_pointwise (c ∷ s) [] = refl
+same_pointwise (c ∷ s) (d ∷ t) = ap (λ (rest : Bool). eqb c d && rest) (same_pointwise s t)
 
 -- whatever bytes are unpacked, each character has a code
 plain_append : (s t : List ℕ) → Plain s → Plain t → Plain (s ++ t)

@@ -4,7 +4,7 @@
 
 mod own;
 
-ghost use Rattle.std.specs.Prelude.{◌≡◌, map, ◌≤◌, length, take};
+ghost use Rattle.std.specs.Prelude.{◌≡◌, ◌≤◌, length, take};
 ghost use Rattle.refusal.specs.Outcome.{ends, reply_of};
 ghost use Rattle.packed_string.specs.declared.text_group.Mode.TheVariants.{Standard};
 ghost use Rattle.types.specs.declared.delimiter.FrameType.TheVariants.{Request, Response};
@@ -15,20 +15,19 @@ ghost use Rattle.response.specs.Sizes.{groups_end};
 ghost use Rattle.commands.specs.Tag.{tag_read};
 ghost use Rattle.commands.specs.TagDescriptorDate.{fields_read};
 ghost use Rattle.commands.specs.Variables.{codes_read};
-ghost use Rattle.device.specs.Own.{own_tag, own_variable};
-ghost use Rattle.device.specs.Device.{same_text, status_alone, identifies, measures, recognizes, describes, rewrites, told_to, answer_to, answering};
-ghost use Rattle.device.specs.Code.{said_in, spoken_by};
+ghost use Rattle.device.specs.Own.{own_tag};
+ghost use Rattle.device.specs.Device.{status_alone, identifies, measures, recognizes, describes, rewrites, told_to, answer_to, answering};
+ghost use Rattle.device.specs.Code.{spoken_by};
 
-use commands::read_device_vars::DeviceVariable;
 use commands::{
     Mode, read_device_id, read_device_vars, read_tag_descriptor_date, read_unique_id_by_tag,
     write_tag_descriptor_date,
 };
-use framing::{Frame, PayloadVerdict, encode_frame};
+use framing::{Frame, encode_frame};
 use octets::least;
 use own::{DAY, MONTH, YEAR, own_descriptor, own_identity, own_tag, own_variable};
 use refusal::Refusal;
-use response::{GROUPS_END, MAX_DEVICE_VARS, TAG_LENGTH};
+use response::GROUPS_END;
 use types::consts::MIN_PREAMBLE_COUNT;
 use types::consts::commands::{
     READ_DEVICE_ID, READ_DEVICE_VARS_WITH_STATUS, READ_TAG_DESCRIPTOR_DATE, READ_UNIQUE_ID_BY_TAG,
@@ -41,168 +40,96 @@ const TOO_FEW_BYTES: u8 = 5;
 
 const NOT_IMPLEMENTED: u8 = 64;
 
-// The first bytes of a payload are the response's data, or there is no response.
-#[derive(Clone, Copy)]
-enum Said {
-    Nothing,
-    First(usize),
-}
-
-fn said_in(written: Result<usize, Refusal>) -> Said
-    ensures { result ≡ said_in written }
-{
-    match written {
-        Ok(n) => Said::First(n),
-        Err(_) => Said::Nothing,
-    }
-}
-
-fn tell_status(code: u8, payload: &mut [u8]) -> Said
+// What a response's first bytes are, once they are written: this many of the payload, or none where there is no response.
+fn tell_status(code: u8, payload: &mut [u8]) -> Option<usize>
     requires { groups_end ≤ length payload.old }
     ensures { spoken_by result payload.new ≡ status_alone code }
 {
     payload[0] = code;
     payload[1] = 0;
-    Said::First(2)
+    Some(2)
 }
 
 // Command 0. A frame that is no such request gets no answer.
-fn tell_identity(frame: Frame, payload: &mut [u8]) -> Said
+fn tell_identity(frame: Frame, payload: &mut [u8]) -> Option<usize>
     requires { (groups_end ≤ length payload.old) × (frame.frame_type ≡ Request) × (frame.command ≡ 0) }
     ensures { spoken_by result payload.new ≡ identifies }
 {
-    let verdict = read_device_id::read_request(frame);
-    match verdict {
-        PayloadVerdict::Carried => {
-            said_in(read_device_id::encode_response(0, 0, own_identity(), payload))
-        }
-        PayloadVerdict::Refused(_) => Said::Nothing,
-    }
-}
-
-// The variables of all eight codes, also of the zeros behind those that were asked for.
-fn variables_of(codes: [u8; MAX_DEVICE_VARS]) -> [DeviceVariable; MAX_DEVICE_VARS]
-    ensures { result ≡ map own_variable codes }
-{
-    let first = own_variable(0);
-    let mut variables = [first; MAX_DEVICE_VARS];
-    let mut i = 0;
-    while i < MAX_DEVICE_VARS {
-        variables[i] = own_variable(codes[i]);
-        i += 1;
-    }
-    variables
+    read_device_id::read_request(frame).ok()?;
+    read_device_id::encode_response(0, 0, own_identity(), payload).ok()
 }
 
 // Command 9: the variables that were asked for, in that order.
-fn tell_variables(frame: Frame, payload: &mut [u8]) -> Said
+fn tell_variables(frame: Frame, payload: &mut [u8]) -> Option<usize>
     requires { (groups_end ≤ length payload.old) × (frame.frame_type ≡ Request) × (frame.command ≡ 9) }
     ensures { spoken_by result payload.new ≡ measures (codes_read (data_of frame)) }
 {
-    let request = read_device_vars::read_request(frame);
-    let verdict = request.verdict;
-    match verdict {
-        PayloadVerdict::Carried => {
-            let codes = request.codes;
-            let variables = variables_of(codes);
-            said_in(read_device_vars::encode_response(0, 0, 0, variables, request.count, payload))
-        }
-        PayloadVerdict::Refused(_) => tell_status(TOO_FEW_BYTES, payload),
-    }
-}
-
-fn is_own(tag: [u8; TAG_LENGTH]) -> bool
-    ensures { result ≡ same_text tag own_tag }
-{
-    let own = own_tag();
-    let mut i = 0;
-    while i < TAG_LENGTH {
-        if tag[i] != own[i] {
-            return false;
-        }
-        i += 1;
-    }
-    true
+    let Ok(request) = read_device_vars::read_request(frame) else {
+        return tell_status(TOO_FEW_BYTES, payload);
+    };
+    let variables = request.codes.map(own_variable);
+    read_device_vars::encode_response(0, 0, 0, variables, request.count, payload).ok()
 }
 
 // Command 11: another tag means another device, and that one answers.
-fn tell_if_tagged(frame: Frame, payload: &mut [u8]) -> Said
+fn tell_if_tagged(frame: Frame, payload: &mut [u8]) -> Option<usize>
     requires { (groups_end ≤ length payload.old) × (frame.frame_type ≡ Request) × (frame.command ≡ 11) }
     ensures { spoken_by result payload.new ≡ recognizes (tag_read Standard (data_of frame)) }
 {
-    let request = read_unique_id_by_tag::read_request(Mode::Standard, frame);
-    let verdict = request.verdict;
-    match verdict {
-        PayloadVerdict::Carried => {
-            let tag = request.tag;
-            if is_own(tag) {
-                return said_in(read_unique_id_by_tag::encode_response(
-                    0,
-                    0,
-                    own_identity(),
-                    payload,
-                ));
-            }
-            Said::Nothing
-        }
-        PayloadVerdict::Refused(_) => tell_status(TOO_FEW_BYTES, payload),
+    let Ok(request) = read_unique_id_by_tag::read_request(Mode::Standard, frame) else {
+        return tell_status(TOO_FEW_BYTES, payload);
+    };
+    if request.tag != own_tag() {
+        return None;
     }
+    read_unique_id_by_tag::encode_response(0, 0, own_identity(), payload).ok()
 }
 
 // Command 13.
-fn tell_texts(frame: Frame, payload: &mut [u8]) -> Said
+fn tell_texts(frame: Frame, payload: &mut [u8]) -> Option<usize>
     requires { (groups_end ≤ length payload.old) × (frame.frame_type ≡ Request) × (frame.command ≡ 13) }
     ensures { spoken_by result payload.new ≡ describes }
 {
-    let verdict = read_tag_descriptor_date::read_request(frame);
-    match verdict {
-        PayloadVerdict::Carried => {
-            let tag = own_tag();
-            let descriptor = own_descriptor();
-            said_in(read_tag_descriptor_date::encode_response(
-                Mode::Standard,
-                0,
-                0,
-                tag,
-                descriptor,
-                DAY,
-                MONTH,
-                YEAR,
-                payload,
-            ))
-        }
-        PayloadVerdict::Refused(_) => Said::Nothing,
-    }
+    read_tag_descriptor_date::read_request(frame).ok()?;
+    let tag = own_tag();
+    let descriptor = own_descriptor();
+    read_tag_descriptor_date::encode_response(
+        Mode::Standard,
+        0,
+        0,
+        tag,
+        descriptor,
+        DAY,
+        MONTH,
+        YEAR,
+        payload,
+    )
+    .ok()
 }
 
 // Command 18: the fields as they were sent. The device is fixed, and keeps none of them.
-fn tell_back(frame: Frame, payload: &mut [u8]) -> Said
+fn tell_back(frame: Frame, payload: &mut [u8]) -> Option<usize>
     requires { (groups_end ≤ length payload.old) × (frame.frame_type ≡ Request) × (frame.command ≡ 18) }
     ensures { spoken_by result payload.new ≡ rewrites (fields_read Standard (data_of frame)) }
 {
-    let request = write_tag_descriptor_date::read_request(Mode::Standard, frame);
-    let verdict = request.verdict;
-    match verdict {
-        PayloadVerdict::Carried => {
-            let tag = request.tag;
-            let descriptor = request.descriptor;
-            said_in(write_tag_descriptor_date::encode_response(
-                Mode::Standard,
-                0,
-                0,
-                tag,
-                descriptor,
-                request.day,
-                request.month,
-                request.year,
-                payload,
-            ))
-        }
-        PayloadVerdict::Refused(_) => tell_status(TOO_FEW_BYTES, payload),
-    }
+    let Ok(request) = write_tag_descriptor_date::read_request(Mode::Standard, frame) else {
+        return tell_status(TOO_FEW_BYTES, payload);
+    };
+    write_tag_descriptor_date::encode_response(
+        Mode::Standard,
+        0,
+        0,
+        request.tag,
+        request.descriptor,
+        request.day,
+        request.month,
+        request.year,
+        payload,
+    )
+    .ok()
 }
 
-fn tell_request(frame: Frame, payload: &mut [u8]) -> Said
+fn tell_request(frame: Frame, payload: &mut [u8]) -> Option<usize>
     requires { (groups_end ≤ length payload.old) × (frame.frame_type ≡ Request) }
     ensures { spoken_by result payload.new ≡ told_to frame.command (data_of frame) }
 {
@@ -217,15 +144,15 @@ fn tell_request(frame: Frame, payload: &mut [u8]) -> Said
     }
 }
 
-fn tell(frame: Frame, payload: &mut [u8]) -> Said
+fn tell(frame: Frame, payload: &mut [u8]) -> Option<usize>
     requires { groups_end ≤ length payload.old }
     ensures { spoken_by result payload.new ≡ answer_to frame }
 {
     let frame_type = frame.frame_type;
     match frame_type {
         FrameType::Request => tell_request(frame, payload),
-        FrameType::Response => Said::Nothing,
-        FrameType::Burst => Said::Nothing,
+        FrameType::Response => None,
+        FrameType::Burst => None,
     }
 }
 
@@ -255,10 +182,8 @@ pub fn answer(frame: Frame, out: &mut [u8]) -> Result<usize, Refusal>
     ensures { ends (reply_of result) out.new ≡ answering frame out.old }
 {
     let mut payload = [0u8; GROUPS_END];
-    let told = tell(frame, &mut payload);
-    let address = frame.address;
-    match told {
-        Said::Nothing => Ok(0),
-        Said::First(n) => reply(address, frame.command, &payload, n, out),
-    }
+    let Some(n) = tell(frame, &mut payload) else {
+        return Ok(0);
+    };
+    reply(frame.address, frame.command, &payload, n, out)
 }

@@ -9,7 +9,7 @@ mod told;
 
 use commands::read_device_vars::ReadDeviceVarsResponse;
 use commands::{Mode, Reading, read_device_vars, read_unique_id_by_tag};
-use framing::{Decoder, Frame, PayloadVerdict, encode_frame};
+use framing::{Decoder, Frame, encode_frame};
 use refusal::Refusal;
 use std::io::{self, Read};
 use told::{Bytes, Refused};
@@ -82,10 +82,9 @@ fn tell_frame(rt: &impl Print, frame: Frame) -> io::Result<()> {
         "frame: command {}, bytes of data: {}",
         frame.command, frame.length
     )?;
-    let response = read_device_vars::read_response(Mode::Standard, frame);
-    match response.verdict {
-        PayloadVerdict::Carried => tell_variables(rt, &response),
-        PayloadVerdict::Refused(refusal) => println!(rt; "  no readings:{}", Refused(refusal)),
+    match read_device_vars::read_response(Mode::Standard, frame) {
+        Ok(response) => tell_variables(rt, &response),
+        Err(refusal) => println!(rt; "  no readings:{}", Refused(refusal)),
     }
 }
 

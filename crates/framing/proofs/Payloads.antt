@@ -10,7 +10,11 @@ use lib.ListN.{length, get_or, drop, replicate}
 use lib.Seq.{take-append_seam}
 use lib.Dec.{eqb}
 use borrow.Author.Tests.{ltb-false, eqb-true, not-false, le-ltb, eq-eqb, ne_eqb}
-use Rattle.octets.specs.Part.{Part, from, empty_at}
+use Rattle.std.specs.Prelude.{Result, Ok, Err}
+use Rattle.std.specs.Borrow.{Bor}
+use Rattle.std.specs.Result.{result_unwrap_or}
+use Rattle.refusal.specs.declared.Refusal.{Refusal}
+use Rattle.octets.specs.Part.{Part, part_of, from, empty_at}
 use Rattle.octets.specs.Bit.{bit}
 use Rattle.types.specs.Delimiter.{type_number}
 use Rattle.types.specs.declared.delimiter.FrameType.{FrameType}
@@ -18,7 +22,7 @@ use Rattle.types.specs.declared.delimiter.FrameType.TheVariants.{Request, Respon
 use Rattle.line.specs.Layout.{Wire}
 use Rattle.line.specs.machine.Room.{data_room}
 use Rattle.line.specs.machine.Frames.{frame_of}
-use Rattle.framing.specs.Payload.{Judgement, carries, withheld, judged, payload_judgement, payload_part, typed, data_of}
+use Rattle.framing.specs.Payload.{Judgement, carries, withheld, judged, payload_judgement, handed_back, payload_part, portion_of, portion, typed, data_of}
 
 -- a check that does not refuse
 passed : (fails : Bool) (n : ℕ) (vs : List ℕ) (rest : Judgement) → cond fails (withheld n vs) rest ≡ carries → (fails ≡ false) × (rest ≡ carries)
@@ -48,6 +52,17 @@ part_carried t p e = rw e
 pub part_refused : (t : FrameType) (p : Part) (n : ℕ) (vs : List ℕ) → payload_judgement t p.bytes ≡ withheld n vs → payload_part t p ≡ empty_at p
 unfolding payload_part
 part_refused t p n vs e = rw e
+
+-- what is handed back, or no bytes in its place
+pub part_or_none : (t : FrameType) (p : Part) (r : Result (Bor (List ℕ)) Refusal) (none : Bor (List ℕ)) → portion_of r ≡ portion (payload_judgement t p.bytes) p → part_of none ≡ empty_at p → part_of (result_unwrap_or r none) ≡ payload_part t p
+unfolding payload_part
+part_or_none t p r none said empty = by r (payload_judgement t p.bytes) said
+  where
+    by : (s : Result (Bor (List ℕ)) Refusal) (j : Judgement) → portion_of s ≡ portion j p → part_of (result_unwrap_or s none) ≡ cond (handed_back j) (from 2 p) (empty_at p)
+    by (Ok q) carries e = cc
+    by (Ok q) (withheld n vs) e = cc
+    by (Err d) carries e = cc
+    by (Err d) (withheld n vs) e = empty
 
 module _ (wanted : ℕ) (t : FrameType) (command : ℕ) (ds : List ℕ) where
   pub typed_same : command ≡ wanted → typed wanted t command ds ≡ payload_judgement t ds

@@ -8,6 +8,7 @@ use mathlib.Core.List.{List, []}
 use lib.ListN.{take}
 use lib.Dec.{eqb}
 use borrow.Author.Tests.{eq-eqb, ne_eqb}
+use Rattle.std.specs.Prelude.{Result, Ok, Err}
 use Rattle.refusal.specs.declared.Refusal.{Refusal}
 use Rattle.refusal.specs.Table.{number_of, values_of}
 use Rattle.types.specs.declared.delimiter.FrameType.{FrameType}
@@ -15,8 +16,6 @@ use Rattle.types.specs.declared.delimiter.FrameType.TheVariants.{Request, Respon
 use Rattle.line.specs.Layout.{Wire}
 use Rattle.line.specs.machine.Frames.{frame_of}
 use Rattle.line.specs.declared.frame.Frame.{Frame}
-use Rattle.framing.specs.declared.payload.PayloadVerdict.{PayloadVerdict}
-use Rattle.framing.specs.declared.payload.PayloadVerdict.TheVariants.{Carried, Refused}
 use Rattle.framing.specs.Payload.{Judgement, carries, withheld, judgement_of, Reader}
 use Rattle.framing.specs.Requests.{read_on, request_judgement, asked, asked_in, asked_of, no_data}
 use Rattle.framing.proofs.Payloads.{frame_data}
@@ -56,12 +55,12 @@ module _ {A : Type 0} (k : Reader A) where
         by Burst false other = refl
 
     -- the ways out of a reader's code: the data are read, or the verdict's refusal passed on
-    module _ {v : PayloadVerdict} (said : judgement_of v ≡ asked k.number t command) where
-      pub asks_carried : v ≡ Carried → k.read ds ≡ asked_in k t command ds
+    module _ {v : Result (Unit {0}) Refusal} (said : judgement_of v ≡ asked k.number t command) where
+      pub asks_carried : v ≡ Ok tt → k.read ds ≡ asked_in k t command ds
       asks_carried told = sym (judged_as (sym said ∙ ap judgement_of told))
 
-      pub asks_verdict : {r : Refusal} (nothing : Judgement → A) → nothing (withheld (number_of r) (values_of r)) ≡ k.refuse (number_of r) (values_of r) → v ≡ Refused r → nothing (judgement_of v) ≡ asked_in k t command ds
-      asks_verdict nothing same told = ap (λ (u : PayloadVerdict). nothing (judgement_of u)) told ∙ same ∙ sym (judged_as (sym said ∙ ap judgement_of told))
+      pub asks_refused : {r : Refusal} → v ≡ Err r → k.refuse (number_of r) (values_of r) ≡ asked_in k t command ds
+      asks_refused told = sym (judged_as (sym said ∙ ap judgement_of told))
 
   -- what was read of a frame's own data, as they are lent, was read of the frame
   pub asks_lent : (f : Frame) {x : A} → x ≡ asked_in k f.frame_type f.command (take (f.length - 0) f.«data») → x ≡ asked_of k f

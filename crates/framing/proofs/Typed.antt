@@ -1,24 +1,24 @@
 -- What a typed reading comes to, of any command: callers cite these and not the text of the definitions.
 use Prim.Native.Nat.{ℕ, ◌-◌}
 use native.Mathlib.Nat.{sub-zero}
-use mathlib.Core.Path.{◌≡◌, refl, sym, ap, ◌∙◌}
+use mathlib.Core.Path.{◌≡◌, refl, sym, ap, ap₂, ◌∙◌}
 use mathlib.Core.Logic.{◌≢◌}
 use mathlib.Core.Bool.{Bool, true, false, cond}
 use mathlib.Core.List.{List, []}
 use lib.ListN.{take, drop}
 use lib.Dec.{eqb}
+use Rattle.std.specs.Prelude.{Result, Ok, Err}
+use Rattle.std.specs.Borrow.{Bor}
 use Rattle.refusal.specs.declared.Refusal.{Refusal}
 use Rattle.refusal.specs.Table.{number_of, values_of}
-use Rattle.octets.specs.Part.{Part}
+use Rattle.octets.specs.Part.{Part, part_of, from}
 use Rattle.types.specs.declared.delimiter.FrameType.{FrameType}
 use Rattle.types.specs.declared.delimiter.FrameType.TheVariants.{Request}
 use Rattle.line.specs.Layout.{Wire}
 use Rattle.line.specs.machine.Frames.{frame_of}
 use Rattle.line.specs.declared.frame.Frame.{Frame}
-use Rattle.framing.specs.declared.payload.PayloadVerdict.{PayloadVerdict}
-use Rattle.framing.specs.declared.payload.PayloadVerdict.TheVariants.{Carried, Refused}
-use Rattle.framing.specs.Payload.{Judgement, carries, withheld, judgement_of, payload_judgement, payload_part, typed, Reader, passed_on, typed_in, typed_of}
-use Rattle.framing.proofs.Payloads.{typed_same, typed_other, typed_part, frame_data}
+use Rattle.framing.specs.Payload.{Judgement, carries, withheld, payload_judgement, handed, kept, portion_of, portion, typed, Reader, passed_on, typed_in, typed_of}
+use Rattle.framing.proofs.Payloads.{typed_same, typed_other, frame_data}
 
 module _ {A : Type 0} (k : Reader A) where
   -- by what the data are judged for
@@ -45,19 +45,23 @@ module _ {A : Type 0} (k : Reader A) where
       by true = refl
       by false = refl
 
-  -- the ways out of a reader's code: the payload is read, or the verdict's refusal passed on
-  module _ (t : FrameType) (command : ℕ) (p : Part) {v : PayloadVerdict} (said : judgement_of v ≡ typed k.number t command p.bytes) where
-    pub reads_carried : {q : Part} → v ≡ Carried → q ≡ payload_part t p → k.read q.bytes ≡ typed_in k t command p.bytes
-    reads_carried told part =
-        let e : typed k.number t command p.bytes ≡ carries = sym said ∙ ap judgement_of told in
-        ap k.read (ap (λ (q : Part). q.bytes) part ∙ typed_part k.number t command p e) ∙ sym (judged_as t command p.bytes e)
+  -- the ways out of a reader's code: the payload that it was handed is read, or its refusal passed on
+  module _ (t : FrameType) (command : ℕ) (p : Part) {v : Result (Bor (List ℕ)) Refusal} (said : portion_of v ≡ portion (typed k.number t command p.bytes) p) where
+    pub reads_handed : {q : Bor (List ℕ)} → v ≡ Ok q → k.read q.now ≡ typed_in k t command p.bytes
+    unfolding typed_in
+    reads_handed {q} told = by (typed k.number t command p.bytes) (ap portion_of (sym told) ∙ said)
+      where
+        by : (j : Judgement) → handed (part_of q) ≡ portion j p → k.read q.now ≡ passed_on k j p.bytes
+        by carries e = let part : part_of q ≡ from 2 p = cc in ap (λ (x : Part). k.read x.bytes) part
+        by (withheld number values) e = cc
 
-    pub reads_refused : {r : Refusal} → v ≡ Refused r → k.refuse (number_of r) (values_of r) ≡ typed_in k t command p.bytes
-    reads_refused told = sym (judged_as t command p.bytes (sym said ∙ ap judgement_of told))
-
-    -- where the answer is made of the verdict itself
-    pub reads_verdict : {r : Refusal} (nothing : Judgement → A) → nothing (withheld (number_of r) (values_of r)) ≡ k.refuse (number_of r) (values_of r) → v ≡ Refused r → nothing (judgement_of v) ≡ typed_in k t command p.bytes
-    reads_verdict nothing same told = ap (λ (u : PayloadVerdict). nothing (judgement_of u)) told ∙ same ∙ reads_refused told
+    pub reads_refused : {r : Refusal} → v ≡ Err r → k.refuse (number_of r) (values_of r) ≡ typed_in k t command p.bytes
+    unfolding typed_in
+    reads_refused {r} told = by (typed k.number t command p.bytes) (ap portion_of (sym told) ∙ said)
+      where
+        by : (j : Judgement) → kept (number_of r) (values_of r) ≡ portion j p → k.refuse (number_of r) (values_of r) ≡ passed_on k j p.bytes
+        by carries e = cc
+        by (withheld number values) e = let n : number_of r ≡ number = cc in let vs : values_of r ≡ values = cc in ap₂ k.refuse n vs
 
   -- what was read of a frame's own data, as they are lent, was read of the frame
   pub reads_lent : (f : Frame) {x : A} → x ≡ typed_in k f.frame_type f.command (take (f.length - 0) f.«data») → x ≡ typed_of k f

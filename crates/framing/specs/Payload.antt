@@ -1,22 +1,22 @@
 -- Document 01, 'Commands': the payload of a response or burst frame.
-use Rattle.std.specs.Prelude.{ℕ, Bool, true, false, cond, not, List, [], ◌∷◌, length, get_or, take, drop, eqb, ltb}
+use Rattle.std.specs.Prelude.{ℕ, Bool, true, false, cond, not, List, [], ◌∷◌, length, get_or, take, drop, eqb, ltb, Result, Ok, Err}
+use Rattle.std.specs.Borrow.{Bor}
+use Rattle.refusal.specs.declared.Refusal.{Refusal}
 use Rattle.refusal.specs.Table.{number_of, values_of}
-use Rattle.octets.specs.Part.{Part, from, empty_at}
+use Rattle.octets.specs.Part.{Part, part_of, from, empty_at}
 use Rattle.octets.specs.Bit.{bit}
 use Rattle.types.specs.declared.delimiter.FrameType.{FrameType}
 use Rattle.types.specs.declared.delimiter.FrameType.TheVariants.{Request, Response, Burst}
 use Rattle.line.specs.declared.frame.Frame.{Frame}
-use Rattle.framing.specs.declared.payload.PayloadVerdict.{PayloadVerdict}
-use Rattle.framing.specs.declared.payload.PayloadVerdict.TheVariants.{Carried, Refused}
 
 -- what is made of a frame's data: they carry a payload, or a refusal's number and values
 pub data Judgement : Type 0 where
   carries : Judgement
   withheld : ℕ → List ℕ → Judgement
 
-abbrev pub judgement_of : PayloadVerdict → Judgement
-judgement_of Carried = carries
-judgement_of (Refused r) = withheld (number_of r) (values_of r)
+abbrev pub judgement_of : Result (Unit {0}) Refusal → Judgement
+judgement_of (Ok _) = carries
+judgement_of (Err r) = withheld (number_of r) (values_of r)
 
 -- of a frame that a device sends: 3 without both status bytes, 9 if the first has bit 7 set, 10 if it is not 0 otherwise
 abbrev pub judged : List ℕ → Judgement
@@ -41,6 +41,20 @@ handed_back (withheld number values) = false
 -- what is left behind the two status bytes, or nothing, at the start
 unfoldable pub payload_part : FrameType → Part → Part
 payload_part t p = cond (handed_back (payload_judgement t p.bytes)) (from 2 p) (empty_at p)
+
+-- what is handed back of a frame's data: a part of them, or a refusal's number and values
+pub data Portion : Type 0 where
+  handed : Part → Portion
+  kept : ℕ → List ℕ → Portion
+
+abbrev pub portion_of : Result (Bor (List ℕ)) Refusal → Portion
+portion_of (Ok p) = handed (part_of p)
+portion_of (Err r) = kept (number_of r) (values_of r)
+
+-- what is carried stands behind the status bytes, and a refusal is passed on as it is
+abbrev pub portion : Judgement → Part → Portion
+portion carries p = handed (from 2 p)
+portion (withheld number values) p = kept number values
 
 -- a typed reading asks for a command: 6 for any other, as for a request, comes before what the data are judged for
 unfoldable pub typed : ℕ → FrameType → ℕ → List ℕ → Judgement

@@ -13,5 +13,7 @@ pub use byte::step;
 pub use decode::{Decoder, Fed};
 pub use encode::encode_frame;
 pub use line::{Frame, Head, State};
-pub use payload::{PayloadVerdict, payload_part, payload_verdict, request_verdict, typed_verdict};
+pub use payload::{
+    payload_in, payload_part, payload_verdict, request_verdict, typed_payload, typed_verdict,
+};
 pub use reachable::is_reachable;

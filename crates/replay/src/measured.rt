@@ -3,6 +3,7 @@
 // arithmetic alone: where the library reads bits otherwise the answer is `other`.
 use crate::given::Given;
 use crate::output::{Answered, Output};
+use crate::shown::Refused;
 use commands::read_device_vars::DeviceVariable;
 use commands::{Mode, Reading, read_device_vars};
 use std::fmt;
@@ -78,7 +79,9 @@ fn put_reading(variable: DeviceVariable, out: &mut Output) -> fmt::Result {
 pub(crate) fn read_reading(mut given: Given, out: &mut Output) -> Answered {
     let group: [u8; 8] = given.array()?;
     given.end()?;
-    let [variable, ..] = read_device_vars::decode_data(Mode::Crate, &group).variables;
-    put_reading(variable, out)?;
+    match read_device_vars::decode_data(Mode::Crate, &group) {
+        Ok(response) => put_reading(response.variables[0], out)?,
+        Err(refusal) => write!(out, "{}", Refused(refusal))?,
+    }
     Ok(())
 }

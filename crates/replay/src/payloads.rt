@@ -2,20 +2,18 @@
 use crate::given::{Command, Given};
 use crate::output::{Answered, Output};
 use crate::readers::{put_identity, put_texts, put_variables};
-use crate::shown::{HexOrDash, Refused};
+use crate::shown::{HexOrDash, Told};
 use commands::{
     read_device_id, read_device_vars, read_tag_descriptor_date, read_unique_id_by_tag,
     write_tag_descriptor_date,
 };
-use framing::{PayloadVerdict, payload_part, payload_verdict};
+use framing::{payload_part, payload_verdict};
+use refusal::Refusal;
 use std::fmt;
 use std::fmt::Write;
 
-pub(crate) fn put_verdict(verdict: PayloadVerdict, out: &mut Output) -> fmt::Result {
-    match verdict {
-        PayloadVerdict::Carried => write!(out, "."),
-        PayloadVerdict::Refused(refusal) => write!(out, "{}", Refused(refusal)),
-    }
+pub(crate) fn put_verdict(verdict: Result<(), Refusal>, out: &mut Output) -> fmt::Result {
+    write!(out, "{}", Told(verdict.map(|()| ".")))
 }
 
 pub(crate) fn read_payload(mut given: Given, out: &mut Output) -> Answered {

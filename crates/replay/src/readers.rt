@@ -5,10 +5,10 @@ use crate::output::{Answered, Output};
 use crate::shown::{Hex, Told};
 use commands::read_device_vars::{DeviceVariable, ReadDeviceVarsResponse};
 use commands::{
-    DeviceIdentity, IdentityRead, Mode, TagDescriptorDate, read_device_vars,
-    read_tag_descriptor_date, read_unique_id_by_tag, write_tag_descriptor_date,
+    DeviceIdentity, Mode, TagDescriptorDate, read_device_vars, read_tag_descriptor_date,
+    read_unique_id_by_tag, write_tag_descriptor_date,
 };
-use framing::PayloadVerdict;
+use refusal::Refusal;
 use std::fmt;
 use std::fmt::Write;
 use types::{Address, ResponseStatus};
@@ -85,12 +85,8 @@ impl fmt::Display for Identity {
     }
 }
 
-pub(crate) fn put_identity(read: IdentityRead, out: &mut Output) -> fmt::Result {
-    let read = match read {
-        IdentityRead::Identity(identity) => Ok(Identity(identity)),
-        IdentityRead::Refused(refusal) => Err(refusal),
-    };
-    write!(out, "{}", Told(read))
+pub(crate) fn put_identity(read: Result<DeviceIdentity, Refusal>, out: &mut Output) -> fmt::Result {
+    write!(out, "{}", Told(read.map(Identity)))
 }
 
 #[derive(Drop)]
@@ -128,12 +124,11 @@ impl fmt::Display for Variables {
     }
 }
 
-pub(crate) fn put_variables(response: ReadDeviceVarsResponse, out: &mut Output) -> fmt::Result {
-    let read = match response.verdict {
-        PayloadVerdict::Carried => Ok(Variables(response)),
-        PayloadVerdict::Refused(refusal) => Err(refusal),
-    };
-    write!(out, "{}", Told(read))
+pub(crate) fn put_variables(
+    read: Result<ReadDeviceVarsResponse, Refusal>,
+    out: &mut Output,
+) -> fmt::Result {
+    write!(out, "{}", Told(read.map(Variables)))
 }
 
 #[derive(Drop)]
@@ -152,18 +147,14 @@ impl fmt::Display for Texts {
     }
 }
 
-pub(crate) fn put_texts(response: TagDescriptorDate, out: &mut Output) -> fmt::Result {
-    let read = match response.verdict {
-        PayloadVerdict::Carried => Ok(Texts(response)),
-        PayloadVerdict::Refused(refusal) => Err(refusal),
-    };
-    write!(out, "{}", Told(read))
+pub(crate) fn put_texts(read: Result<TagDescriptorDate, Refusal>, out: &mut Output) -> fmt::Result {
+    write!(out, "{}", Told(read.map(Texts)))
 }
 
 // By one of the calls that read an identity.
 pub(crate) fn read_identity<F>(decode: F, mut given: Given, out: &mut Output) -> Answered
 where
-    F: FnOnce(&[u8]) -> IdentityRead,
+    F: FnOnce(&[u8]) -> Result<DeviceIdentity, Refusal>,
     requires { F.IsAlwaysCallable decode }
 {
     put_identity(decode(given.rest()), out)?;

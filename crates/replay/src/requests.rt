@@ -11,7 +11,8 @@ use commands::{
     Mode, read_device_id, read_device_vars, read_tag_descriptor_date, read_unique_id_by_tag,
     write_tag_descriptor_date,
 };
-use framing::{Frame, PayloadVerdict};
+use framing::Frame;
+use refusal::Refusal;
 use std::fmt;
 use std::fmt::Write;
 use types::{Address, FrameType, MasterRole};
@@ -30,20 +31,21 @@ impl fmt::Display for Codes {
     }
 }
 
-fn put_codes(request: ReadDeviceVarsRequest, out: &mut Output) -> fmt::Result {
-    let read = match request.verdict {
-        PayloadVerdict::Carried => Ok(Codes(request)),
-        PayloadVerdict::Refused(refusal) => Err(refusal),
-    };
-    write!(out, "{}", Told(read))
+#[derive(Drop)]
+struct Tag(ReadUniqueIdByTagRequest);
+
+impl fmt::Display for Tag {
+    fn fmt<W: fmt::Write>(&self, f: &mut fmt::Formatter<W>) -> fmt::Result {
+        write!(f, "{}", Hex(&self.0.tag))
+    }
 }
 
-fn put_tag(request: ReadUniqueIdByTagRequest, out: &mut Output) -> fmt::Result {
-    let read = match request.verdict {
-        PayloadVerdict::Carried => Ok(Hex(&request.tag)),
-        PayloadVerdict::Refused(refusal) => Err(refusal),
-    };
-    write!(out, "{}", Told(read))
+fn put_codes(read: Result<ReadDeviceVarsRequest, Refusal>, out: &mut Output) -> fmt::Result {
+    write!(out, "{}", Told(read.map(Codes)))
+}
+
+fn put_tag(read: Result<ReadUniqueIdByTagRequest, Refusal>, out: &mut Output) -> fmt::Result {
+    write!(out, "{}", Told(read.map(Tag)))
 }
 
 // The reader is that of its own command, whatever the frame's command is.

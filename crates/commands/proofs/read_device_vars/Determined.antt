@@ -1,16 +1,13 @@
 -- Each promise of this module leaves one outcome.
-use Prim.Native.Nat.{ℕ}
-use mathlib.Core.Path.{◌≡◌, refl, sym, ap, ap₂, ◌∙◌}
-use mathlib.Core.List.{List}
+use mathlib.Core.Path.{◌≡◌, refl, sym, ap, ◌∙◌}
 use Rattle.refusal.specs.Outcome.{reply_of}
 use Rattle.refusal.specs.Determined.{Determined}
-use Rattle.refusal.proofs.Known.{agree, agree_alone, written_known}
-use Rattle.framing.specs.declared.payload.PayloadVerdict.{PayloadVerdict}
-use Rattle.framing.proofs.Determined.{verdict_known}
+use Rattle.refusal.proofs.Known.{agree, agree_alone, refusal_known, written_known}
+use Rattle.std.specs.Prelude.{Result, Ok, Err}
+use Rattle.refusal.specs.declared.Refusal.{Refusal}
 use Rattle.commands.proofs.Determined.{worth_known}
-use Rattle.commands.specs.declared.read_device_vars.DeviceVariable.{DeviceVariable}
 use Rattle.commands.specs.declared.read_device_vars.ReadDeviceVarsResponse.{ReadDeviceVarsResponse}
-use Rattle.commands.specs.Variables.{variables_of}
+use Rattle.commands.specs.Variables.{Variables, reads_variables, variables_of, Codes, reads_codes, codes_of}
 use Rattle.commands.proofs.read_device_vars.DeviceVariable.reading.Kinds as device-variable-reading-kinds
 use Rattle.commands.proofs.read_device_vars.DeviceVariable.reading.Reads as device-variable-reading-reads
 use Rattle.commands.proofs.read_device_vars.encode_data.Kinds as encode-data-kinds
@@ -30,16 +27,26 @@ use Rattle.commands.proofs.read_device_vars.encode_response.Reads as encode-resp
 use Rattle.commands.proofs.read_device_vars.DeviceVariable.encode.Kinds as device-variable-encode-kinds
 use Rattle.commands.proofs.read_device_vars.DeviceVariable.encode.Reads as device-variable-encode-reads
 use Rattle.commands.specs.declared.read_device_vars.ReadDeviceVarsRequest.{ReadDeviceVarsRequest}
-use Rattle.commands.specs.Variables.{codes_of}
 
-abbrev response : PayloadVerdict → ℕ → List DeviceVariable → ReadDeviceVarsResponse
-response verdict count variables = record { verdict = verdict; count = count; variables = variables }
+abbrev response : Variables → ReadDeviceVarsResponse
+response (reads_variables judgement count variables) = record { count = count; variables = variables }
 
--- a response is known by what it reads
-pub response_known : (r s : ReadDeviceVarsResponse) → variables_of r ≡ variables_of s → r ≡ s
-response_known r s e =
-    let vs : r.variables ≡ s.variables = cc in
-    ap (λ (v : PayloadVerdict). response v r.count r.variables) (verdict_known r.verdict s.verdict (cc)) ∙ ap₂ (response s.verdict) (cc) vs
+-- a reading of a response is known by its variables
+pub response_known : (r s : Result ReadDeviceVarsResponse Refusal) → variables_of r ≡ variables_of s → r ≡ s
+response_known (Ok r) (Ok s) e = ap (λ (v : Variables). Ok (response v)) e
+response_known (Ok r) (Err s) e = cc
+response_known (Err r) (Ok s) e = cc
+response_known (Err r) (Err s) e = ap Err (refusal_known r s (cc) (cc))
+
+abbrev request : Codes → ReadDeviceVarsRequest
+request (reads_codes judgement count codes) = record { count = count; codes = codes }
+
+-- and one of a request by its codes
+request_known : (r s : Result ReadDeviceVarsRequest Refusal) → codes_of r ≡ codes_of s → r ≡ s
+request_known (Ok r) (Ok s) e = ap (λ (c : Codes). Ok (request c)) e
+request_known (Ok r) (Err s) e = cc
+request_known (Err r) (Ok s) e = cc
+request_known (Err r) (Err s) e = ap Err (refusal_known r s (cc) (cc))
 
 pub device_variable_reading : Determined 0 device-variable-reading-kinds.ps device-variable-reading-kinds.r device-variable-reading-reads.Post (λ κs x. tt {0})
 device_variable_reading κs a r s x y = λ p q. (worth_known r s (p ∙ sym q), refl)
@@ -55,13 +62,6 @@ read_frame κs a r s x y = λ p q. (response_known r s (p ∙ sym q), refl)
 
 pub read_response : Determined 0 read-response-kinds.ps read-response-kinds.r read-response-reads.Post (λ κs x. tt {0})
 read_response κs a r s x y = λ p q. (response_known r s (p ∙ sym q), refl)
-
--- a request is known by what it reads
-request_known : (r s : ReadDeviceVarsRequest) → codes_of r ≡ codes_of s → r ≡ s
-request_known r s e =
-    let codes : r.codes ≡ s.codes = cc in
-    ap (λ (v : PayloadVerdict). record { verdict = v; count = r.count; codes = r.codes }) (verdict_known r.verdict s.verdict (cc))
-    ∙ ap₂ (λ (n : ℕ) (cs : List ℕ). record { verdict = s.verdict; count = n; codes = cs }) (cc) codes
 
 pub device_variable_encode : Determined 0 device-variable-encode-kinds.ps device-variable-encode-kinds.r device-variable-encode-reads.Post (λ κs x. tt {0})
 device_variable_encode κs a r s x y = agree_alone

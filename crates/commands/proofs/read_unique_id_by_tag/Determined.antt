@@ -1,8 +1,8 @@
 -- Each promise of this module leaves one outcome.
-use mathlib.Core.Path.{◌≡◌, refl, sym, ap₂, ◌∙◌}
+use mathlib.Core.Path.{◌≡◌, refl, sym, ap, ◌∙◌}
 use Rattle.refusal.specs.Outcome.{reply_of}
 use Rattle.refusal.specs.Determined.{Determined}
-use Rattle.refusal.proofs.Known.{agree, agree_alone, written_known}
+use Rattle.refusal.proofs.Known.{agree, agree_alone, refusal_known, written_known}
 use Rattle.commands.proofs.Determined.{identity_known}
 use Rattle.commands.proofs.read_unique_id_by_tag.encode_data.Kinds as encode-data-kinds
 use Rattle.commands.proofs.read_unique_id_by_tag.encode_data.Reads as encode-data-reads
@@ -20,12 +20,10 @@ use Rattle.commands.proofs.read_unique_id_by_tag.read_request.Kinds as read-requ
 use Rattle.commands.proofs.read_unique_id_by_tag.read_request.Reads as read-request-reads
 use Rattle.commands.proofs.read_unique_id_by_tag.encode_response.Kinds as encode-response-kinds
 use Rattle.commands.proofs.read_unique_id_by_tag.encode_response.Reads as encode-response-reads
-use mathlib.Core.List.{List}
-use Prim.Native.Nat.{ℕ}
-use Rattle.framing.specs.declared.payload.PayloadVerdict.{PayloadVerdict}
-use Rattle.framing.proofs.Determined.{verdict_known}
+use Rattle.std.specs.Prelude.{Result, Ok, Err}
+use Rattle.refusal.specs.declared.Refusal.{Refusal}
 use Rattle.commands.specs.declared.read_unique_id_by_tag.ReadUniqueIdByTagRequest.{ReadUniqueIdByTagRequest}
-use Rattle.commands.specs.Tag.{tagged_of}
+use Rattle.commands.specs.Tag.{Tagged, reads_tag, tagged_of}
 
 pub encode_data : Determined 1 encode-data-kinds.ps encode-data-kinds.r encode-data-reads.Post (λ κs x. x.1.1.0.now)
 encode_data κs a r s x y = agree reply_of written_known
@@ -42,9 +40,15 @@ read_frame κs a r s x y = λ p q. (identity_known r s (p ∙ sym q), refl)
 pub read_response : Determined 0 read-response-kinds.ps read-response-kinds.r read-response-reads.Post (λ κs x. tt {0})
 read_response κs a r s x y = λ p q. (identity_known r s (p ∙ sym q), refl)
 
--- a request is known by what it reads
-request_known : (r s : ReadUniqueIdByTagRequest) → tagged_of r ≡ tagged_of s → r ≡ s
-request_known r s e = ap₂ (λ (v : PayloadVerdict) (t : List ℕ). record { verdict = v; tag = t }) (verdict_known r.verdict s.verdict (cc)) (cc)
+abbrev request : Tagged → ReadUniqueIdByTagRequest
+request (reads_tag judgement tag) = record { tag = tag }
+
+-- a reading of a request is known by its tag
+request_known : (r s : Result ReadUniqueIdByTagRequest Refusal) → tagged_of r ≡ tagged_of s → r ≡ s
+request_known (Ok r) (Ok s) e = ap (λ (t : Tagged). Ok (request t)) e
+request_known (Ok r) (Err s) e = cc
+request_known (Err r) (Ok s) e = cc
+request_known (Err r) (Err s) e = ap Err (refusal_known r s (cc) (cc))
 
 pub read_request_frame : Determined 1 read-request-frame-kinds.ps read-request-frame-kinds.r read-request-frame-reads.Post (λ κs x. tt {0})
 read_request_frame κs a r s x y = λ p q. (request_known r s (p ∙ sym q), refl)

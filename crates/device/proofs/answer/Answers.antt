@@ -3,14 +3,12 @@ use mathlib.Core.Path.{◌∙◌}
 use Rattle.device.proofs.Answers.{answers_nothing, answers_first}
 use Rattle.device.proofs.answer.Goals as goal
 
-pub returns-in-Nothing : goal.returns-in-Nothing
-returns-in-Nothing c =
+pub returns-in_default : goal.returns-in_default
+returns-in_default c =
     let a = c.args in
-    let t = c.tell-told in
-    answers_nothing a.frame a.out.now t.new.payload c.in-Nothing.is t.ensures
+    answers_nothing a.frame a.out.now c.tell.new.payload c.in_default.is c.tell.ensures
 
-pub returns-in-First : goal.returns-in-First
-returns-in-First c =
+pub returns : goal.returns
+returns c =
     let a = c.args in
-    let t = c.tell-told in
-    c.reply.ensures ∙ answers_first a.frame a.out.now t.new.payload c.in-First.is t.ensures
+    c.reply.ensures ∙ answers_first a.frame a.out.now c.tell.new.payload c.in-Some.is c.tell.ensures

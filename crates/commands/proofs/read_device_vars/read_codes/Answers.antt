@@ -13,7 +13,7 @@ use Rattle.commands.proofs.read_device_vars.Calls.{codes_none, codes_some}
 use Rattle.commands.proofs.read_device_vars.read_codes.Goals as goal
 
 pub returns-then-data-lt1 : goal.returns-then-data-lt1
-returns-then-data-lt1 c = c.refused_request.ensures ∙ sym (codes_none c.args.«data».now (omega arith))
+returns-then-data-lt1 c = sym (codes_none c.args.«data».now (omega arith))
 
 pub returns : goal.returns
 returns c =

@@ -1,18 +1,18 @@
--- A refusal is passed on as it is, and what is carried is read behind the status bytes.
-use mathlib.Core.Path.{refl, ◌∙◌}
+-- The payload that is handed back is read, and a refusal is passed on as it is.
+use mathlib.Core.Path.{◌∙◌}
+use Rattle.std.proofs.lemmas.Result.{err_from_is_err_and}
 use Rattle.octets.specs.Part.{part_of}
-use Rattle.commands.specs.Variables.{no_variables_read, command9}
-use Rattle.framing.proofs.Typed.{reads_carried, reads_verdict}
+use Rattle.commands.specs.Variables.{command9}
+use Rattle.framing.proofs.Typed.{reads_handed, reads_refused}
 use Rattle.commands.proofs.read_device_vars.read_frame.Goals as goal
-
-pub returns-in_default : goal.returns-in_default
-returns-in_default c =
-    let a = c.args in
-    c.refused.ensures
-    ∙ reads_verdict (command9 a.mode) a.frame_type a.command (part_of a.«data») c.typed_verdict-verdict.ensures no_variables_read refl c.in_default.is
 
 pub returns : goal.returns
 returns c =
     let a = c.args in
-    c.decode_data.ensures
-    ∙ reads_carried (command9 a.mode) a.frame_type a.command (part_of a.«data») c.typed_verdict-verdict.ensures c.in-Carried.is c.payload_part.ensures
+    c.decode_data.ensures ∙ reads_handed (command9 a.mode) a.frame_type a.command (part_of a.«data») c.typed_payload.ensures c.in_ok-payload.was
+
+pub returns-in_err-payload : goal.returns-in_err-payload
+returns-in_err-payload c =
+    let a = c.args in
+    let p = err_from_is_err_and c.from_residual.result c.from_residual.ensures.1 in
+    rw (p.1, p.2) (reads_refused (command9 a.mode) a.frame_type a.command (part_of a.«data») c.typed_payload.ensures c.in_err-payload.was)

@@ -1,17 +1,17 @@
 -- A refusal is passed on as it is, and else the data are read.
-use mathlib.Core.Path.{refl, ◌∙◌}
-use Rattle.commands.specs.Variables.{no_codes_read, request9}
-use Rattle.framing.proofs.Requests.{asks_carried, asks_verdict}
+use mathlib.Core.Path.{◌∙◌}
+use Rattle.std.proofs.lemmas.Result.{err_from_is_err_and}
+use Rattle.commands.specs.Variables.{request9}
+use Rattle.framing.proofs.Requests.{asks_carried, asks_refused}
 use Rattle.commands.proofs.read_device_vars.read_request_frame.Goals as goal
-
-pub returns-in_default : goal.returns-in_default
-returns-in_default c =
-    let a = c.args in
-    c.refused_request.ensures
-    ∙ asks_verdict request9 a.frame_type a.command a.«data».now c.request_verdict-verdict.ensures no_codes_read refl c.in_default.is
 
 pub returns : goal.returns
 returns c =
     let a = c.args in
-    c.read_codes.ensures
-    ∙ asks_carried request9 a.frame_type a.command a.«data».now c.request_verdict-verdict.ensures c.in-Carried.is
+    c.read_codes.ensures ∙ asks_carried (request9) a.frame_type a.command a.«data».now c.request_verdict.ensures c.in_ok-request_verdict.was
+
+pub returns-in_err-request_verdict : goal.returns-in_err-request_verdict
+returns-in_err-request_verdict c =
+    let a = c.args in
+    let p = err_from_is_err_and c.from_residual.result c.from_residual.ensures.1 in
+    rw (p.1, p.2) (asks_refused (request9) a.frame_type a.command a.«data».now c.request_verdict.ensures c.in_err-request_verdict.was)

@@ -11,7 +11,7 @@ use Rattle.commands.proofs.read_unique_id_by_tag.Tags.{tag_read_short, tag_read_
 use Rattle.commands.proofs.read_unique_id_by_tag.read_tag.Goals as goal
 
 pub returns-then-data-lt-TAG_SIZE : goal.returns-then-data-lt-TAG_SIZE
-returns-then-data-lt-TAG_SIZE c = c.refused.ensures ∙ sym (tag_read_short c.args.mode c.args.«data».now (omega arith))
+returns-then-data-lt-TAG_SIZE c = sym (tag_read_short c.args.mode c.args.«data».now (omega arith))
 
 pub returns : goal.returns
 returns c =

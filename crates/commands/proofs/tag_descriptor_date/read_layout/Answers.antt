@@ -26,7 +26,7 @@ fields_made mode bs h e f =
     ap₂ (λ (x y : List ℕ). reads_fields carries x y (get_or bs day_at 0) (get_or bs month_at 0) (get_or bs year_at 0)) t d ∙ sym (read_whole mode bs h)
 
 pub returns-then-data-lt-LAYOUT_SIZE : goal.returns-then-data-lt-LAYOUT_SIZE
-returns-then-data-lt-LAYOUT_SIZE c = c.refused.ensures ∙ sym (read_short c.args.mode c.args.«data».now (omega arith))
+returns-then-data-lt-LAYOUT_SIZE c = sym (read_short c.args.mode c.args.«data».now (omega arith))
 
 pub returns : goal.returns
 returns c =
