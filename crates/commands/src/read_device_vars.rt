@@ -15,7 +15,7 @@ ghost use Rattle.commands.specs.Code.{variables_fields};
 
 use crate::reading::{Reading, value_of};
 use framing::{Frame, request_verdict, typed_payload};
-use octets::{copy_into, decode_u32_be, encode_u32_be, least};
+use octets::{copy_into, decode_u32_be, encode_u32_be};
 use packed_string::Mode;
 use refusal::Refusal;
 pub use response::MAX_DEVICE_VARS;
@@ -195,7 +195,7 @@ fn read_codes(data: &[u8]) -> Result<ReadDeviceVarsRequest, Refusal>
     if data.len() < 1 {
         return Err(Refusal::BufferTooShort);
     }
-    let count = least(MAX_DEVICE_VARS, data.len());
+    let count = MAX_DEVICE_VARS.min(data.len());
     let mut codes = [0u8; MAX_DEVICE_VARS];
     copy_into(&data[..count], &mut codes, 0);
     Ok(ReadDeviceVarsRequest {

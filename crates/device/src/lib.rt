@@ -24,7 +24,6 @@ use commands::{
     write_tag_descriptor_date,
 };
 use framing::{Frame, encode_frame};
-use octets::least;
 use own::{DAY, MONTH, YEAR, own_descriptor, own_identity, own_tag, own_variable};
 use refusal::Refusal;
 use response::GROUPS_END;
@@ -166,7 +165,7 @@ fn reply(
 ) -> Result<usize, Refusal>
     ensures { ends (reply_of result) out.new ≡ encoded Response address command (take n bytes.now) enough out.old }
 {
-    let count = least(n, bytes.len());
+    let count = n.min(bytes.len());
     encode_frame(
         FrameType::Response,
         address,

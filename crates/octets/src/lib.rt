@@ -13,5 +13,5 @@ pub use checksum::checksum_from;
 pub use copy::{copy_into, fill};
 pub use figures::{DECIMAL_ROOM, Digits, decimal, hex};
 pub use numbers::{
-    decode_u16_be, decode_u24_be, decode_u32_be, encode_u16_be, encode_u24_be, encode_u32_be, least,
+    decode_u16_be, decode_u24_be, decode_u32_be, encode_u16_be, encode_u24_be, encode_u32_be,
 };

@@ -18,8 +18,8 @@ returns-then-data-lt1 c = sym (codes_none c.args.«data».now (omega arith))
 pub returns : goal.returns
 returns c =
     let bs = c.args.«data».now in
-    let count : c.least-count.result ≡ min most_variables (length bs) = c.least-count.ensures in
-    let codes : take c.least-count.result bs ≡ take most_variables bs = ap (λ (n : ℕ). take n bs) count ∙ take_least most_variables bs in
+    let count : c.min-count.result ≡ min most_variables (length bs) = c.min-count.ensures in
+    let codes : take c.min-count.result bs ≡ take most_variables bs = ap (λ (n : ℕ). take n bs) count ∙ take_least most_variables bs in
     ap₂ (reads_codes carries) count
     (copied_into_zeros most_variables (take most_variables bs) (omega (arith, length-take most_variables bs)) (c.copy_into.ensures ∙ ap (put_if_fits (replicate most_variables 0) 0) codes))
     ∙ sym (codes_some bs (omega arith))
