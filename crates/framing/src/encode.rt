@@ -13,6 +13,15 @@ use refusal::Refusal;
 use types::consts::{MAX_DATA_LENGTH, PREAMBLE_BYTE};
 use types::{Address, FrameType, Opening, address_length, delimiter_byte};
 
+// What stands in front of a frame's data, but for their count.
+#[derive(Clone, Copy)]
+pub(crate) struct Front {
+    pub frame_type: FrameType,
+    pub address: Address,
+    pub command: u8,
+    pub preamble_count: u8,
+}
+
 fn length_of(address: Address) -> usize
     ensures { result ≡ address_length (is_long address) }
 {
@@ -28,28 +37,21 @@ fn write_preambles(buf: &mut [u8], n: usize)
 
 // Everything in front of the data; returns the place where the data begin. It takes their count and
 // not the data, so that someone else can put them in place.
-fn write_head(
-    frame_type: FrameType,
-    address: Address,
-    command: u8,
-    count: u8,
-    preamble_count: u8,
-    buf: &mut [u8],
-) -> usize
-    requires { data_place address preamble_count ≤ length buf.old }
-    ensures { (result ≡ data_place address preamble_count) × (buf.new ≡ put buf.old 0 (head frame_type address command count preamble_count)) }
+fn write_head(front: Front, count: u8, buf: &mut [u8]) -> usize
+    requires { data_place front.address front.preamble_count ≤ length buf.old }
+    ensures { (result ≡ data_place front.address front.preamble_count) × (buf.new ≡ put buf.old 0 (head front.frame_type front.address front.command count front.preamble_count)) }
 {
-    let pos = preamble_count as usize;
+    let pos = front.preamble_count as usize;
     write_preambles(buf, pos);
     let opening = Opening {
-        frame_type,
-        is_long: address.is_long(),
+        frame_type: front.frame_type,
+        is_long: front.address.is_long(),
     };
     buf[pos] = delimiter_byte(opening);
     let after = pos + 1;
-    let _ = address.encode(&mut buf[after..]);
-    let next = after + length_of(address);
-    buf[next] = command;
+    let _ = front.address.encode(&mut buf[after..]);
+    let next = after + length_of(front.address);
+    buf[next] = front.command;
     buf[next + 1] = count;
     next + 2
 }
@@ -65,26 +67,12 @@ fn check_of_head(head: &[u8]) -> u8
 }
 
 // Head, data and check to the front of the buffer.
-fn write_frame(
-    frame_type: FrameType,
-    address: Address,
-    command: u8,
-    data: &[u8],
-    preamble_count: u8,
-    buf: &mut [u8],
-)
-    requires { (length «data».now ≤ most_data) × (total preamble_count (is_long address) (length «data».now) ≤ length buf.old) }
-    ensures { buf.new ≡ put buf.old 0 (layout preamble_count (wire_of frame_type address command «data».now)) }
+fn write_frame(front: Front, data: &[u8], buf: &mut [u8])
+    requires { (length «data».now ≤ most_data) × (total front.preamble_count (is_long front.address) (length «data».now) ≤ length buf.old) }
+    ensures { buf.new ≡ put buf.old 0 (layout front.preamble_count (wire_of front.frame_type front.address front.command «data».now)) }
 {
-    let from = preamble_count as usize;
-    let at = write_head(
-        frame_type,
-        address,
-        command,
-        data.len() as u8,
-        preamble_count,
-        buf,
-    );
+    let from = front.preamble_count as usize;
+    let at = write_head(front, data.len() as u8, buf);
     let checksum = checksum_from(check_of_head(&buf[from..at]), data);
     copy_into(data, buf, at);
     let to = at + data.len();
@@ -109,26 +97,25 @@ pub fn encode_frame(
     if buf.len() < total {
         return Err(Refusal::BufferTooSmall);
     }
-    write_frame(frame_type, address, command, data, preamble_count, buf);
+    let front = Front {
+        frame_type,
+        address,
+        command,
+        preamble_count,
+    };
+    write_frame(front, data, buf);
     Ok(total)
 }
 
 // The head of a frame whose data someone else puts in place, where it has room; returns where they begin.
-pub(crate) fn open_frame(
-    frame_type: FrameType,
-    address: Address,
-    command: u8,
-    count: u8,
-    preamble_count: u8,
-    buf: &mut [u8],
-) -> usize
-    ensures { (result ≡ data_place address preamble_count) × (buf.new ≡ put_if_fits buf.old 0 (head frame_type address command count preamble_count)) }
+pub(crate) fn open_frame(front: Front, count: u8, buf: &mut [u8]) -> usize
+    ensures { (result ≡ data_place front.address front.preamble_count) × (buf.new ≡ put_if_fits buf.old 0 (head front.frame_type front.address front.command count front.preamble_count)) }
 {
-    let at = preamble_count as usize + 3 + length_of(address);
+    let at = front.preamble_count as usize + 3 + length_of(front.address);
     if buf.len() < at {
         return at;
     }
-    write_head(frame_type, address, command, count, preamble_count, buf)
+    write_head(front, count, buf)
 }
 
 // The check of what stands from one place up to another, written behind it where there is room.

@@ -16,14 +16,14 @@ fits l bs e h = e ∙ sym (put_fitting l 0 bs (omega arith))
 pub returns-then-buf-at : goal.returns-then-buf-at
 returns-then-buf-at c =
     let a = c.args in
-    let size = length-head a.frame_type a.address a.command a.preamble_count a.count in
+    let size = length-head a.front.frame_type a.front.address a.front.command a.front.preamble_count a.count in
     let told = c.length_of.ensures in
-    (omega (arith, told), sym (put_misfit a.buf.now 0 (head a.frame_type a.address a.command a.count a.preamble_count) (omega (arith, size, told))))
+    (omega (arith, told), sym (put_misfit a.buf.now 0 (head a.front.frame_type a.front.address a.front.command a.count a.front.preamble_count) (omega (arith, size, told))))
 
 pub returns : goal.returns
 returns c =
     let a = c.args in
-    let size = length-head a.frame_type a.address a.command a.preamble_count a.count in
+    let size = length-head a.front.frame_type a.front.address a.front.command a.front.preamble_count a.count in
     let told = c.length_of.ensures in
     let opened = c.write_head.ensures in
-    (opened.0, fits a.buf.now (head a.frame_type a.address a.command a.count a.preamble_count) opened.1 (omega (arith, size, told)))
+    (opened.0, fits a.buf.now (head a.front.frame_type a.front.address a.front.command a.count a.front.preamble_count) opened.1 (omega (arith, size, told)))

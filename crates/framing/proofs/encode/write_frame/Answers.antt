@@ -47,7 +47,7 @@ pub returns : goal.returns
 returns c =
     let a = c.args in
     let ds = a.«data».now in
-    let n = a.preamble_count in
+    let n = a.front.preamble_count in
     let h = c.write_head-at in
     let checked = c.checksum_from-checksum.ensures ∙ ap (λ (k : ℕ). check_from k ds) c.check_of_head.ensures in
-    layout_made a.frame_type a.address a.command n ds a.buf.now h.result (h.result + length ds) c.checksum_from-checksum.result h.ensures.0 h.ensures.1 c.copy_into.ensures refl checked (omega arith)
+    layout_made a.front.frame_type a.front.address a.front.command n ds a.buf.now h.result (h.result + length ds) c.checksum_from-checksum.result h.ensures.0 h.ensures.1 c.copy_into.ensures refl checked (omega arith)

@@ -16,12 +16,12 @@ use Rattle.framing.proofs.encode.write_head.Goals as goal
 pub returns : goal.returns
 returns c =
     let a = c.args in
-    let n = a.preamble_count in
+    let n = a.front.preamble_count in
     let p = c.write_preambles.new.buf in
-    let d : c.delimiter_byte.result ≡ delimiter (opening_of a.frame_type a.address) = cc in
+    let d : c.delimiter_byte.result ≡ delimiter (opening_of a.front.frame_type a.front.address) = cc in
     let l = set p n c.delimiter_byte.result in
-    let room : n + 1 + address_length (is_long a.address) ≤ length l = simp length-set (omega (arith, c.write_preambles.auto.buf)) in
-    let w = lent_address a.address l (n + 1) room c.encode.ensures ∙ ap (λ (x : ℕ). put (set p n x) (n + 1) (address_bytes a.address)) d in
+    let room : n + 1 + address_length (is_long a.front.address) ≤ length l = simp length-set (omega (arith, c.write_preambles.auto.buf)) in
+    let w = lent_address a.front.address l (n + 1) room c.encode.ensures ∙ ap (λ (x : ℕ). put (set p n x) (n + 1) (address_bytes a.front.address)) d in
     let at = n + 1 + c.length_of.result in
-    let size : at ≡ n + 1 + length (address_bytes a.address) = omega (arith, c.length_of.ensures, length-address a.address) in
-    (omega (arith, c.length_of.ensures), put-head a.buf.now (preambles n) n (delimiter (opening_of a.frame_type a.address)) (address_bytes a.address) at a.command a.count c.write_preambles.ensures (length-preambles n) w size (omega (arith, c.length_of.ensures)))
+    let size : at ≡ n + 1 + length (address_bytes a.front.address) = omega (arith, c.length_of.ensures, length-address a.front.address) in
+    (omega (arith, c.length_of.ensures), put-head a.buf.now (preambles n) n (delimiter (opening_of a.front.frame_type a.front.address)) (address_bytes a.front.address) at a.front.command a.count c.write_preambles.ensures (length-preambles n) w size (omega (arith, c.length_of.ensures)))
