@@ -1,12 +1,13 @@
 -- Laws on blocks: what each call comes to, case by case, and what a block holds.
-use Prim.Native.Nat.{ℕ, ◌+◌, ◌-◌, ◌≤◌, ◌<◌}
+use Prim.Native.Nat.{ℕ, ◌+◌, ◌≤◌, ◌<◌}
 use native.Mathlib.Omega.{arith}
 use mathlib.Core.Path.{◌≡◌, refl, sym, ap, ap₂, ◌∙◌}
 use mathlib.Core.Logic.{◌≢◌}
 use mathlib.Core.Bool.{true, false, and-false}
-use mathlib.Core.List.{List, [], ◌++◌, append-nil}
+use mathlib.Core.List.{List, [], ◌++◌, append-nil, append_assoc}
 use lib.Dec.{eqb}
-use lib.ListN.{length, take, drop, replicate, length-drop, drop_of_length-le}
+use Rattle.std.proofs.lemmas.List.{drop-append-le, length-take}
+use lib.ListN.{length, take, drop, take-append-drop, replicate, length-drop, drop_of_length-le}
 use lib.Seq.{drop_at, length-take-le, take_all}
 use borrow.Author.Tests.{eq-eqb, ne_eqb, lt-leb, le-leb}
 use borrow.Rule.Slice.PartMut.{mid_of, put_mid}
@@ -16,7 +17,8 @@ use Rattle.octets.proofs.Bases.{length_digits}
 use Rattle.octets.proofs.Put.{put_front}
 use Rattle.line.specs.machine.Room.{decoder_room}
 use Rattle.line.specs.machine.Step.{moved_at, stored_at}
-use Rattle.line.specs.machine.Feed.{blank, fresh, event_of, settled_by, settled, stepped}
+use Rattle.line.specs.Events.{Event}
+use Rattle.line.specs.machine.Feed.{Held, blank, fresh, event_of, settled_by, settled, stepped}
 use Rattle.line.specs.machine.Reachable.{reachable_at}
 use Rattle.line.specs.declared.state.State.{State}
 use Rattle.line.specs.declared.moved.Moved.{Moved}
@@ -53,12 +55,28 @@ pub put_header : (n : ℕ) (block : List ℕ) → put block 0 (digits 256 header
 put_header n block = put_front block (digits 256 header_size n) ∙ ap (λ (k : ℕ). digits 256 header_size n ++ drop k block) (length_digits 256 header_size n)
 
 -- what was written of a byte, where the block is then as it must be
-pub record_told : (x : Ended) (s : State) (block lent : List ℕ) {n : ℕ} {after room : List ℕ} → (n ≡ length (record_of (event_of x (mid_of header_size (length block - header_size) block)))) × (room ≡ put lent 0 (record_of (event_of x (mid_of header_size (length block - header_size) block))))
-    → after ≡ block_of (settled_by x s (drop header_size block)).0 → tells n after room ≡ recorded (settled_by x s (drop header_size block)) lent
-record_told x s block lent (en, er) ea =
-    let behind : mid_of header_size (length block - header_size) block ≡ drop header_size block = take_all (length block - header_size) (drop header_size block) (omega (arith, length-drop header_size block)) in
-    let e : event_of x (mid_of header_size (length block - header_size) block) ≡ (settled_by x s (drop header_size block)).1 = ap (event_of x) behind ∙ sym (settled_event x s (drop header_size block)) in
-    rw (en, er, ea, e)
+pub record_told : (x : Ended) (s : State) (bs lent : List ℕ) {n : ℕ} {after room : List ℕ} → (n ≡ length (record_of (event_of x bs))) × (room ≡ put lent 0 (record_of (event_of x bs)))
+    → after ≡ block_of (settled_by x s bs).0 → tells n after room ≡ recorded (settled_by x s bs) lent
+record_told x s bs lent (en, er) ea = rw (en, er, ea, settled_event x s bs)
+
+-- a record at the front of the first bytes of a room, and behind them the rest of it
+put_first : (l bs : List ℕ) (n : ℕ) → length bs ≤ n → n ≤ length l → put (take n l) 0 bs ++ drop n l ≡ put l 0 bs
+put_first l bs n h k =
+    let b = length bs in
+    let whole : take n l ++ drop n l ≡ l = take-append-drop n l in
+    ap (λ (q : List ℕ). q ++ drop n l) (put_front (take n l) bs)
+    ∙ append_assoc bs (drop b (take n l)) (drop n l)
+    ∙ ap (λ (q : List ℕ). bs ++ q) (sym (drop-append-le b (take n l) (drop n l) (omega (arith, length-take n l))) ∙ ap (drop b) whole)
+    ∙ sym (put_front l bs)
+
+-- what was told of the front of a room is so of the room
+pub told_first : (x : Held × Event) (l : List ℕ) (n : ℕ) → length (record_of x.1) ≤ n → n ≤ length l → {r : ℕ} {block front : List ℕ}
+    → tells r block front ≡ recorded x (take n l) → tells r block (front ++ drop n l) ≡ recorded x l
+told_first x l n h k {r} {block} {front} e =
+    let er : r ≡ length (record_of x.1) = cc in
+    let eb : block ≡ block_of x.0 = cc in
+    let ef : front ≡ put (take n l) 0 (record_of x.1) = cc in
+    rw (er, eb, ef, put_first l (record_of x.1) n h k)
 
 module _ (block : List ℕ) where
   pub clear_whole : length block ≡ block_size → cleared_block block ≡ clears 0 (replicate block_size 0)
@@ -70,15 +88,15 @@ module _ (block : List ℕ) where
   clear_refused h = rw (ne_eqb (length block) block_size h)
 
 -- a byte that was stepped into the bytes behind the header, in place
-pub stepped_block : (l : List ℕ) (b : ℕ) {s : State} {m : Moved} {part : List ℕ} → length l ≡ block_size → s ≡ state_in l → m ≡ moved_at s b → part ≡ stored_at s (mid_of header_size (length l - header_size) l) b
-    → settled m (drop header_size (put_mid header_size (length l - header_size) l part)) ≡ stepped (held_in l) b
+pub stepped_block : (l : List ℕ) (b : ℕ) {s : State} {m : Moved} {part : List ℕ} → length l ≡ block_size → s ≡ state_in l → m ≡ moved_at s b → part ≡ stored_at s (mid_of header_size decoder_room l) b
+    → settled m (drop header_size (put_mid header_size decoder_room l part)) ≡ stepped (held_in l) b
 unfolding stepped
 stepped_block l b {s} {m} {part} h es em ep =
     let behind = drop header_size l in
-    let mid : mid_of header_size (length l - header_size) l ≡ behind = take_all (length l - header_size) behind (omega (arith, length-drop header_size l)) in
-    let none : drop (length l - header_size) behind ≡ [] = drop_of_length-le behind {i = length l - header_size} (omega (arith, length-drop header_size l)) in
-    let stored : drop header_size (put_mid header_size (length l - header_size) l part) ≡ stored_at (state_in l) behind b =
-    drop_at (take header_size l) (part ++ drop (length l - header_size) behind) header_size (length-take-le header_size l (omega arith))
+    let mid : mid_of header_size decoder_room l ≡ behind = take_all decoder_room behind (omega (arith, length-drop header_size l)) in
+    let none : drop decoder_room behind ≡ [] = drop_of_length-le behind {i = decoder_room} (omega (arith, length-drop header_size l)) in
+    let stored : drop header_size (put_mid header_size decoder_room l part) ≡ stored_at (state_in l) behind b =
+    drop_at (take header_size l) (part ++ drop decoder_room behind) header_size (length-take-le header_size l (omega arith))
     ∙ ap (λ (q : List ℕ). part ++ q) none
     ∙ append-nil part
     ∙ ep

@@ -39,11 +39,23 @@ pub(crate) const HEADER_SIZE: usize = 6;
 pub(crate) fn long_bit(long: bool) -> u8
     ensures { result ≡ long_bit long }
 {
-    if long {
-        return 1;
-    }
-    0
+    u8::from(long)
 }
+
+// The phases, by their numbers in a header.
+const HUNTING: u8 = 0;
+
+const PREAMBLE: u8 = 1;
+
+const IN_ADDRESS: u8 = 2;
+
+const IN_COMMAND: u8 = 3;
+
+const BYTE_COUNT: u8 = 4;
+
+const DATA: u8 = 5;
+
+const CHECKSUM: u8 = 6;
 
 // The fields of a header, each phase's in one shape: they are packed in one place, and `header_of` is small
 // enough for the compiler to take it into its callers. The counts, of preambles or of data, and the command
@@ -110,22 +122,22 @@ fn fields_of(state: State) -> Fields
     ensures { (result.counts < header_end) × (summed result ≡ header_of state) }
 {
     match state {
-        State::Hunting => without_head(0, 0),
-        State::Preamble(count) => without_head(1, count),
-        State::Address { head, received } => with_head(2, head, received, 0, 0, 0),
-        State::Command { head } => behind_address(3, head, 0, 0, 0),
-        State::ByteCount { head, command } => behind_address(4, head, 0, 0, command),
+        State::Hunting => without_head(HUNTING, 0),
+        State::Preamble(count) => without_head(PREAMBLE, count),
+        State::Address { head, received } => with_head(IN_ADDRESS, head, received, 0, 0, 0),
+        State::Command { head } => behind_address(IN_COMMAND, head, 0, 0, 0),
+        State::ByteCount { head, command } => behind_address(BYTE_COUNT, head, 0, 0, command),
         State::Data {
             head,
             command,
             expected,
             received,
-        } => behind_address(5, head, expected, received, command),
+        } => behind_address(DATA, head, expected, received, command),
         State::Checksum {
             head,
             command,
             expected,
-        } => behind_address(6, head, expected, expected, command),
+        } => behind_address(CHECKSUM, head, expected, expected, command),
     }
 }
 
@@ -136,16 +148,15 @@ pub(crate) fn header_of(state: State) -> u64
     packed(fields_of(state))
 }
 
+// Every number of a header's two bits is read: that 3 is no type is found by making the header again.
 fn type_numbered(number: u64) -> FrameType
     ensures { result ≡ type_numbered number }
 {
-    if number == 1 {
-        return FrameType::Response;
+    match number {
+        1 => FrameType::Response,
+        2 => FrameType::Burst,
+        _ => FrameType::Request,
     }
-    if number == 2 {
-        return FrameType::Burst;
-    }
-    FrameType::Request
 }
 
 fn head_said(number: u64, long: u64, check: u8) -> Head
@@ -163,41 +174,31 @@ fn head_said(number: u64, long: u64, check: u8) -> Head
 pub(crate) fn state_at(header: u64) -> State
     ensures { result ≡ state_at header }
 {
-    let phase = header % END / PHASE;
+    let phase = (header % END / PHASE) as u8;
     let check = (header % COMMAND / CHECK) as u8;
     let head = head_said(header % PHASE / TYPE, header % TYPE / LONG, check);
     let command = (header % RECEIVED / COMMAND) as u8;
     let expected = (header % ADDRESS / EXPECTED) as u8;
     let received = (header % EXPECTED / RECEIVED) as u8;
-    if phase == 1 {
-        return State::Preamble((header % LONG / PREAMBLES) as u8);
-    }
-    if phase == 2 {
-        return State::Address {
+    match phase {
+        PREAMBLE => State::Preamble((header % LONG / PREAMBLES) as u8),
+        IN_ADDRESS => State::Address {
             head,
             received: (header % PREAMBLES / ADDRESS) as u8,
-        };
-    }
-    if phase == 3 {
-        return State::Command { head };
-    }
-    if phase == 4 {
-        return State::ByteCount { head, command };
-    }
-    if phase == 5 {
-        return State::Data {
+        },
+        IN_COMMAND => State::Command { head },
+        BYTE_COUNT => State::ByteCount { head, command },
+        DATA => State::Data {
             head,
             command,
             expected,
             received,
-        };
-    }
-    if phase == 6 {
-        return State::Checksum {
+        },
+        CHECKSUM => State::Checksum {
             head,
             command,
             expected,
-        };
+        },
+        _ => State::Hunting,
     }
-    State::Hunting
 }

@@ -1,12 +1,13 @@
 // What a piece that is over leaves in the room for records.
-ghost use Rattle.std.specs.Prelude.{◌≡◌, ◌+◌, ◌≤◌, length};
+ghost use Rattle.std.specs.Prelude.{◌≡◌, ◌+◌, ◌≤◌, length, drop};
 ghost use Rattle.octets.specs.Put.{put};
 ghost use Rattle.types.specs.Address.{address_length, is_long, address_bytes};
-ghost use Rattle.line.specs.machine.Room.{decoder_room};
 ghost use Rattle.line.specs.machine.Feed.{wire_in, event_of};
-ghost use Rattle.host.specs.Record.{record_room, frame_first, frame_record, refusal_record, record_of};
+ghost use Rattle.host.specs.Block.{header_size};
+ghost use Rattle.host.specs.Record.{frame_first, frame_record, refusal_record, record_of};
 
-use crate::block_header::long_bit;
+use crate::block_header::{HEADER_SIZE, long_bit};
+use crate::load::Block;
 use line::Completed;
 use octets::copy_into;
 use refusal::Refusal;
@@ -16,11 +17,13 @@ use types::{Address, HEAD_ROOM, Opening, address_length};
 // First byte, address, command, count and data.
 pub const RECORD_ROOM: usize = 1 + HEAD_ROOM + 2 + MAX_DATA_LENGTH;
 
-fn write_address(address: Address, room: &mut [u8], at: usize)
-    requires { at + address_length (is_long address) ≤ length room.old }
-    ensures { room.new ≡ put room.old at (address_bytes address) }
+// What of a host's room is written: it has all that the longest record takes.
+pub(crate) type Room = [u8; RECORD_ROOM];
+
+fn write_address(address: Address, room: &mut Room)
+    ensures { room.new ≡ put room.old 1 (address_bytes address) }
 {
-    let _ = address.encode(&mut room[at..]);
+    let _ = address.encode(&mut room[1..]);
 }
 
 // The first byte of a frame's record.
@@ -33,10 +36,10 @@ fn frame_first(opening: Opening) -> u8
 
 // A frame's record, and how many bytes it has. The address goes through our own reader and writer, so
 // that bits that say nothing are zero.
-fn write_frame(completed: Completed, bytes: &[u8], room: &mut [u8]) -> u32
-    requires { (length bytes.now ≡ decoder_room) × (record_room ≤ length room.old) }
-    ensures { (result ≡ length (frame_record (wire_in completed bytes.now))) × (room.new ≡ put room.old 0 (frame_record (wire_in completed bytes.now))) }
+fn write_frame(completed: Completed, block: &Block, room: &mut Room) -> u32
+    ensures { let written = frame_record (wire_in completed (drop header_size block.now)) in (result ≡ length written) × (room.new ≡ put room.old 0 written) }
 {
+    let bytes = &block[HEADER_SIZE..];
     let Completed {
         head,
         command,
@@ -45,7 +48,7 @@ fn write_frame(completed: Completed, bytes: &[u8], room: &mut [u8]) -> u32
     let long = head.is_long;
     room[0] = frame_first(head.opening());
     let address = Address::from_bytes([bytes[0], bytes[1], bytes[2], bytes[3], bytes[4]], long);
-    write_address(address, room, 1);
+    write_address(address, room);
     let next = 1 + address_length(long) as usize;
     room[next] = command;
     room[next + 1] = count;
@@ -56,36 +59,36 @@ fn write_frame(completed: Completed, bytes: &[u8], room: &mut [u8]) -> u32
 }
 
 // The record of a refusal. The line's bytes are refused with 4 and 5 alone.
-fn write_refusal(refusal: Refusal, room: &mut [u8]) -> u32
-    requires { record_room ≤ length room.old }
+fn write_refusal(refusal: Refusal, room: &mut Room) -> u32
     ensures { (result ≡ length (refusal_record refusal)) × (room.new ≡ put room.old 0 (refusal_record refusal)) }
 {
-    if let Refusal::InvalidDelimiter(byte) = refusal {
-        room[0] = 0x40;
-        room[1] = byte;
-        return 2;
+    match refusal {
+        Refusal::InvalidDelimiter(byte) => {
+            room[0] = 0x40;
+            room[1] = byte;
+            2
+        }
+        Refusal::ChecksumMismatch { expected, actual } => {
+            room[0] = 0x80;
+            room[1] = expected;
+            room[2] = actual;
+            3
+        }
+        _ => 0,
     }
-    if let Refusal::ChecksumMismatch { expected, actual } = refusal {
-        room[0] = 0x80;
-        room[1] = expected;
-        room[2] = actual;
-        return 3;
-    }
-    0
 }
 
 // The record of what a byte ended, at the front of the room, and its length: silence has none.
 pub(crate) fn write_record(
     ended: Result<Option<Completed>, Refusal>,
-    bytes: &[u8],
-    room: &mut [u8],
+    block: &Block,
+    room: &mut Room,
 ) -> u32
-    requires { (length bytes.now ≡ decoder_room) × (record_room ≤ length room.old) }
-    ensures { (result ≡ length (record_of (event_of ended bytes.now))) × (room.new ≡ put room.old 0 (record_of (event_of ended bytes.now))) }
+    ensures { let written = record_of (event_of ended (drop header_size block.now)) in (result ≡ length written) × (room.new ≡ put room.old 0 written) }
 {
     match ended {
         Ok(None) => 0,
-        Ok(Some(completed)) => write_frame(completed, bytes, room),
+        Ok(Some(completed)) => write_frame(completed, block, room),
         Err(refusal) => write_refusal(refusal, room),
     }
 }

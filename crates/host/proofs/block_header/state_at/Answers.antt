@@ -1,32 +1,36 @@
--- `state_at` meets its contract: each phase by the tests before it.
-use borrow.Author.Tests.{eq-eqb, ne_eqb}
+-- `state_at` meets its contract: each phase by its number.
+use Prim.Native.Nat.{◌/◌, ◌%◌, ◌^◌}
+use native.Mathlib.Omega.{arith}
+use borrow.Author.Tests.{ne_eqb}
 use Rattle.host.specs.Header.{state_at}
 use Rattle.host.proofs.block_header.state_at.Goals as goal
 
-pub returns-then-phase-eq1 : goal.returns-then-phase-eq1
+pub returns-in-1 : goal.returns-in-1
 unfolding state_at
-returns-then-phase-eq1 c = rw (eq-eqb _ 1 c.if-phase-eq1.true)
+returns-in-1 c = rw c.in-1.is
 
-pub returns-then-phase-eq2 : goal.returns-then-phase-eq2
+pub returns-in-2 : goal.returns-in-2
 unfolding state_at
-returns-then-phase-eq2 c = rw (ne_eqb _ 1 c.if-phase-eq1.false, eq-eqb _ 2 c.if-phase-eq2.true, c.head_said-head.ensures)
+returns-in-2 c = rw (c.in-2.is, c.head_said-head.ensures)
 
-pub returns-then-phase-eq3 : goal.returns-then-phase-eq3
+pub returns-in-3 : goal.returns-in-3
 unfolding state_at
-returns-then-phase-eq3 c = rw (ne_eqb _ 1 c.if-phase-eq1.false, ne_eqb _ 2 c.if-phase-eq2.false, eq-eqb _ 3 c.if-phase-eq3.true, c.head_said-head.ensures)
+returns-in-3 c = rw (c.in-3.is, c.head_said-head.ensures)
 
-pub returns-then-phase-eq4 : goal.returns-then-phase-eq4
+pub returns-in-4 : goal.returns-in-4
 unfolding state_at
-returns-then-phase-eq4 c = rw (ne_eqb _ 1 c.if-phase-eq1.false, ne_eqb _ 2 c.if-phase-eq2.false, ne_eqb _ 3 c.if-phase-eq3.false, eq-eqb _ 4 c.if-phase-eq4.true, c.head_said-head.ensures)
+returns-in-4 c = rw (c.in-4.is, c.head_said-head.ensures)
 
-pub returns-then-phase-eq5 : goal.returns-then-phase-eq5
+pub returns-in-5 : goal.returns-in-5
 unfolding state_at
-returns-then-phase-eq5 c = rw (ne_eqb _ 1 c.if-phase-eq1.false, ne_eqb _ 2 c.if-phase-eq2.false, ne_eqb _ 3 c.if-phase-eq3.false, ne_eqb _ 4 c.if-phase-eq4.false, eq-eqb _ 5 c.if-phase-eq5.true, c.head_said-head.ensures)
+returns-in-5 c = rw (c.in-5.is, c.head_said-head.ensures)
 
-pub returns-then-phase-eq6 : goal.returns-then-phase-eq6
+pub returns-in-6 : goal.returns-in-6
 unfolding state_at
-returns-then-phase-eq6 c = rw (ne_eqb _ 1 c.if-phase-eq1.false, ne_eqb _ 2 c.if-phase-eq2.false, ne_eqb _ 3 c.if-phase-eq3.false, ne_eqb _ 4 c.if-phase-eq4.false, ne_eqb _ 5 c.if-phase-eq5.false, eq-eqb _ 6 c.if-phase-eq6.true, c.head_said-head.ensures)
+returns-in-6 c = rw (c.in-6.is, c.head_said-head.ensures)
 
-pub returns : goal.returns
+pub returns-in_default : goal.returns-in_default
 unfolding state_at
-returns c = rw (ne_eqb _ 1 c.if-phase-eq1.false, ne_eqb _ 2 c.if-phase-eq2.false, ne_eqb _ 3 c.if-phase-eq3.false, ne_eqb _ 4 c.if-phase-eq4.false, ne_eqb _ 5 c.if-phase-eq5.false, ne_eqb _ 6 c.if-phase-eq6.false)
+returns-in_default c =
+    let phase = c.args.header % 2 ^ 48 / 2 ^ 45 in
+    rw (ne_eqb phase 1 (omega arith), ne_eqb phase 2 (omega arith), ne_eqb phase 3 (omega arith), ne_eqb phase 4 (omega arith), ne_eqb phase 5 (omega arith), ne_eqb phase 6 (omega arith))

@@ -1,13 +1,7 @@
 -- The loop's invariant: the number is that of the bytes that were read, and has no more digits than they are.
-use Prim.Native.Nat.{◌-◌, ◌^◌, ◌≤◌, ◌<◌}
-use mathlib.Core.Path.{◌≡◌}
-use lib.ListN.{take}
+use Rattle.std.proofs.Common.{◌≡◌, ◌<◌, ◌^◌, take}
 use Rattle.octets.specs.Digits.{from_digits}
-use Rattle.host.specs.Block.{header_size}
 use Rattle.host.proofs.load.header_in.Given as goal
 
-abbrev pub invariant-loop-i : goal.invariant-loop-i
-invariant-loop-i l = (l.i ≤ header_size) × (l.header ≡ from_digits 256 (take l.i l.block)) × (l.header < 256 ^ l.i)
-
-abbrev pub decreases-loop-i : goal.decreases-loop-i
-decreases-loop-i l = header_size - l.i
+abbrev pub invariant-loop-byte : goal.invariant-loop-byte
+invariant-loop-byte l = record { read : l.header ≡ from_digits 256 (take l.byte-index l.block); small : l.header < 256 ^ l.byte-index }

@@ -1,25 +1,35 @@
--- `load` meets its contract.
-use Prim.Native.Nat.{ℕ, ◌-◌}
+-- `load` meets its contract: the state is the one that the header says, and the two tests are the block's.
 use native.Mathlib.Omega.{arith}
-use mathlib.Core.Path.{◌≡◌, ap, ap₂, ◌∙◌}
+use mathlib.Core.Path.{◌≡◌, refl, ap, ap₂, ◌∙◌}
+use mathlib.Core.Bool.{Bool, true, false, cond, ◌&&◌}
 use lib.Dec.{eqb}
-use lib.ListN.{length, take, drop, length-drop}
+use lib.ListN.{drop, length-drop}
 use lib.Seq.{take_all}
+use borrow.Rule.Slice.PartMut.{mid_of}
+use Rattle.std.specs.Prelude.{Some, None}
+use Rattle.std.specs.Bool.{then_some}
+use Rattle.line.specs.machine.Room.{decoder_room}
 use Rattle.line.specs.machine.Reachable.{reachable_at}
+use Rattle.line.specs.declared.state.State.{State}
 use Rattle.host.specs.Header.{header_of, state_at}
-use Rattle.host.specs.Block.{header_size, block_size, header_in, state_in, accepted}
+use Rattle.host.specs.Block.{header_size, header_in, state_in, accepted}
 use Rattle.host.proofs.load.load.Goals as goal
+
+found : (b c : Bool) (s : State) → then_some (b && c) s ≡ cond (c && b) (Some s) None
+found true true s = refl
+found true false s = refl
+found false true s = refl
+found false false s = refl
 
 pub returns : goal.returns
 unfolding accepted
 returns c =
     let l = c.args.block.now in
-    let behind = drop header_size l in
-    let size : length l ≡ block_size = c.requires in
-    let read : c.header_in.result ≡ header_in l = c.header_in.ensures in
+    let behind : mid_of header_size decoder_room l ≡ drop header_size l = take_all decoder_room (drop header_size l) (omega (arith, length-drop header_size l)) in
+    let read = c.header_in-header.ensures in
     let state : c.state_at-state.result ≡ state_in l = c.state_at-state.ensures ∙ ap state_at read in
-    let again : c.header_of.result ≡ header_of (state_in l) = c.header_of.ensures ∙ ap header_of state in
-    let same : c.has_header-same.result ≡ eqb (header_of (state_in l)) (header_in l) = c.has_header-same.ensures ∙ ap (λ (n : ℕ). eqb n (header_in l)) again in
-    let rest : take (length l - header_size) behind ≡ behind = take_all (length l - header_size) behind (omega (arith, length-drop header_size l)) in
-    let reached : c.is_reachable.result ≡ reachable_at (state_in l) behind = c.is_reachable.ensures ∙ ap₂ reachable_at state rest in
-    (state, rw (same, reached))
+    let reached = c.is_reachable.ensures ∙ ap₂ reachable_at state behind in
+    let same = ap₂ eqb (c.header_of.ensures ∙ ap header_of state) read in
+    c.then_some.ensures
+    ∙ ap₂ then_some (ap₂ (λ (x y : Bool). x && y) reached same) state
+    ∙ found (reachable_at (state_in l) (drop header_size l)) (eqb (header_of (state_in l)) (header_in l)) (state_in l)

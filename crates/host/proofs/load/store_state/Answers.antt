@@ -2,7 +2,7 @@ use Prim.Native.Nat.{ℕ, suc, ◌-◌, ◌/◌, ◌%◌, ◌<◌}
 use native.Mathlib.Omega.{arith}
 use mathlib.Core.Path.{◌≡◌, sym, ap, ◌∙◌}
 use mathlib.Core.List.{List, [], ◌∷◌, ◌++◌}
-use lib.ListN.{length, set, take, drop, length-set, length-append}
+use lib.ListN.{length, set, take, drop, length-append}
 use lib.Seq.{set_split, drop_at, length-take-le, append_snoc}
 use Rattle.octets.specs.Digits.{digits}
 use Rattle.octets.specs.Put.{put}
@@ -26,4 +26,4 @@ loop-i-preserved c =
     let rest = c.loop-i.rest in
     let j = i - 1 in
     let one : suc j ≡ i = omega arith in
-    (omega arith, length-set l j (rest % 256) ∙ c.loop-i.invariant.1, put_before l (digits 256 j (rest / 256)) j (rest % 256) (length_digits 256 j (rest / 256)) (omega arith) ∙ ap (λ (n : ℕ). put l 0 (digits 256 n rest)) one ∙ c.loop-i.invariant.2)
+    put_before l (digits 256 j (rest / 256)) j (rest % 256) (length_digits 256 j (rest / 256)) (omega arith) ∙ ap (λ (n : ℕ). put l 0 (digits 256 n rest)) one ∙ c.loop-i.invariant

@@ -5,6 +5,8 @@ use mathlib.Core.Path.{◌≡◌, refl, sym, ap, ap₂, ◌∙◌}
 use mathlib.Core.List.{List, [], ◌∷◌, ◌++◌, append_assoc}
 use lib.ListN.{length, set, take, drop, length-append, length-drop}
 use lib.Seq.{length-take-le}
+use lib.Seq.{take_all}
+use borrow.Rule.Slice.PartMut.{mid_of}
 use Rattle.octets.specs.Put.{put, put_if_fits}
 use Rattle.octets.proofs.Put.{put-nil, length-put, put-put, put_fitting, put-head}
 use Rattle.types.specs.Address.{address_length, head_room, is_long, address_bytes, read_address}
@@ -12,6 +14,7 @@ use Rattle.types.proofs.Addresses.{address_length_le, length-address, address_ta
 use Rattle.line.specs.machine.Step.{opening_in}
 use Rattle.line.specs.Layout.{address_of}
 use Rattle.line.specs.machine.Feed.{wire_in}
+use Rattle.host.specs.Block.{header_size}
 use Rattle.host.specs.Record.{frame_record}
 use Rattle.host.proofs.records.write_frame.Goals as goal
 
@@ -31,12 +34,15 @@ record_made first command count ab ds l {w} {r} {es} next ew en er ed h =
 pub returns : goal.returns
 returns c =
     let a = c.args in
-    let bs = a.bytes.now in
+    let block = a.block.now in
+    let bs = mid_of 6 260 block in
+    let held : bs ≡ drop header_size block = take_all 260 (drop header_size block) (omega (arith, length-drop header_size block)) in
+    let whole : length bs ≡ 260 = omega (arith, ap length held, length-drop header_size block) in
     let l = a.room.now in
     let behind = drop head_room bs in
     let wire = wire_in a.completed bs in
     let all : head_room + a.completed.length - head_room ≡ a.completed.length = omega arith in
-    let counted : length (take a.completed.length behind) ≡ a.completed.length = length-take-le a.completed.length behind (omega (arith, length-drop head_room bs, c.requires.0)) in
+    let counted : length (take a.completed.length behind) ≡ a.completed.length = length-take-le a.completed.length behind (omega (arith, length-drop head_room bs, whole)) in
     let o = opening_in a.completed.head in
     let address : c.from_bytes-address.result ≡ read_address o.is_long (address_of wire) = c.from_bytes-address.ensures ∙ address_taken o.is_long bs ∙ ap (read_address o.is_long) (sym (address_first o bs)) in
     let long : is_long c.from_bytes-address.result ≡ o.is_long = ap is_long address ∙ long_read o.is_long (address_of wire) in
@@ -45,7 +51,9 @@ returns c =
     let ds = take a.completed.length behind in
     let next = 1 + c.address_length.result in
     let written : next ≡ 1 + length ab = omega (arith, c.address_length.ensures, length-address c.from_bytes-address.result, ap address_length long) in
-    let fits : next + 2 + length ds ≤ length l = omega (arith, counted, c.address_length.ensures, address_length_le a.completed.head.is_long, c.requires.1) in
+    let fits : next + 2 + length ds ≤ length l = omega (arith, counted, c.address_length.ensures, address_length_le a.completed.head.is_long) in
     let laid = record_made first a.completed.command a.completed.length ab ds l next c.write_address.ensures written c.copy_into.ensures (ap (λ (k : ℕ). take k behind) all) fits in
     let same : first ∷ (ab ++ (a.completed.command ∷ a.completed.length ∷ ds)) ≡ frame_record wire = rw (c.frame_first.ensures, c.opening.ensures, address, counted) in
-    (omega (arith, ap length same, length-append ab (a.completed.command ∷ a.completed.length ∷ ds), counted, written), laid ∙ ap (put l 0) same)
+    let made : (next + 2 + a.completed.length ≡ length (frame_record wire)) × (c.copy_into.new.dst ≡ put l 0 (frame_record wire)) =
+    (omega (arith, ap length same, length-append ab (a.completed.command ∷ a.completed.length ∷ ds), counted, written), laid ∙ ap (put l 0) same) in
+    rw held at made

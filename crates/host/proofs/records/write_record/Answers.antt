@@ -1,5 +1,5 @@
 -- What a byte ended decides which record, if any, was written.
-use Rattle.std.proofs.Common.{rules, sym}
+use Rattle.std.proofs.Common.{rules}
 use Rattle.octets.proofs.Put.{put-nil}
 use Rattle.host.specs.Record.{record_of}
 use Rattle.host.proofs.records.write_record.Goals as goal
