@@ -61,10 +61,10 @@ module _ (h : Handed) where
         pub bench_answered_11 : h.command ≡ 11 → (r : Result DeviceIdentity Refusal) → response-11.Post tt (frame, tt) r (frame, tt) → identified_of r ≡ identified (lowered i)
         bench_answered_11 asked r promised = promised ∙ (bench_answered sent command11 asked second (lowered_bytes i) (identity_leaves 0 second i) other).read ∙ identity_read_lowered i
 
-      pub bench_answered_9 : (extended : ℕ) (vs : List DeviceVariable) (n : ℕ) → length vs ≡ most_variables → n ≤ most_variables → AllLined vs n → Sent (variables_responded 0 second extended vs n) h count after → h.command ≡ 9
+      pub bench_answered_9 : (extended : ℕ) (vs : List DeviceVariable) (n : ℕ) → n ≤ length vs → n ≤ most_variables → AllLined vs n → Sent (variables_responded 0 second extended vs n) h count after → h.command ≡ 9
           → (r : Result ReadDeviceVarsResponse Refusal) → response-9.Post tt (Standard, (frame, tt)) r (Standard, (frame, tt)) → variables_of r ≡ reads_variables carries n (take n vs ++ replicate (most_variables - n) no_variable)
-      bench_answered_9 extended vs n full few lined sent asked r promised =
-          promised ∙ (bench_answered sent (command9 Standard) asked second (extended ∷ groups_bytes vs n) (variables_leaves 0 second extended vs n) other).read ∙ response_read_9 vs full extended n few lined
+      bench_answered_9 extended vs n there few lined sent asked r promised =
+          promised ∙ (bench_answered sent (command9 Standard) asked second (extended ∷ groups_bytes vs n) (variables_leaves 0 second extended vs n) other).read ∙ response_read_9 vs extended n there few lined
 
       module _ (mode : Mode) (tag descriptor : List ℕ) (day month year : ℕ) (t : length tag ≡ tag_length) (d : length descriptor ≡ descriptor_length) (p : Plain tag) (q : Plain descriptor)
           (sent : Sent (tag_descriptor_date_responded mode 0 second tag descriptor day month year) h count after) where

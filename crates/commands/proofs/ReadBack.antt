@@ -75,14 +75,14 @@ group_read v rest small value =
     ∙ ap (λ (x : Float). record { device_var_code = v.device_var_code; classification = v.classification; unit = v.unit; value = x; bits = v.bits; status = v.status }) (sym value)
 
 -- the groups of command 9's response
-module _ (vs : List DeviceVariable) (full : length vs ≡ most_variables) where
+module _ (vs : List DeviceVariable) where
   abbrev v : ℕ → DeviceVariable
   v k = get_or vs k no_variable
 
   groups_length : (n : ℕ) → length (groups_bytes vs n) ≡ n * group_size
   groups_length n = length_parts (λ (k : ℕ). group_bytes (v k)) group_size (λ k. refl) n
 
-  variables_back : (n : ℕ) (rest : List ℕ) → n ≤ most_variables → AllLined vs n → first_variables (groups_bytes vs n ++ rest) n ≡ take n vs
+  variables_back : (n : ℕ) (rest : List ℕ) → n ≤ length vs → AllLined vs n → first_variables (groups_bytes vs n ++ rest) n ≡ take n vs
   variables_back zero rest h lined = refl
   variables_back (suc n) rest h lined =
       let before = groups_bytes vs n in
@@ -93,13 +93,13 @@ module _ (vs : List DeviceVariable) (full : length vs ≡ most_variables) where
       ∙ ap₂ (λ (us : List DeviceVariable) (u : DeviceVariable). us ++ (u ∷ [])) (variables_back n last (omega arith) lined.0) there
       ∙ sym (take-suc vs n no_variable (omega arith))
 
-  pub response_read_9 : (extended n : ℕ) → n ≤ most_variables → AllLined vs n
+  pub response_read_9 : (extended n : ℕ) → n ≤ length vs → n ≤ most_variables → AllLined vs n
       → variables_read Standard (extended ∷ groups_bytes vs n) ≡ reads_variables carries n (take n vs ++ replicate (most_variables - n) no_variable)
-  response_read_9 extended n h lined =
+  response_read_9 extended n there h lined =
       let gs = groups_bytes vs n in
       let whole : length gs / group_size ≡ n = omega (arith, groups_length n) in
       let count : groups_of (length gs) ≡ n = ap (λ (m : ℕ). min m most_variables) whole ∙ min-eq_left {n = n} {m = most_variables} h in
       standard_reads (extended ∷ gs) (omega arith)
       ∙ ap (λ (m : ℕ). reads_variables carries m (first_variables gs m ++ replicate (most_variables - m) no_variable)) count
       ∙ ap (λ (us : List DeviceVariable). reads_variables carries n (us ++ replicate (most_variables - n) no_variable))
-      (ap (λ (bs : List ℕ). first_variables bs n) (sym (append-nil gs)) ∙ variables_back n [] h lined)
+      (ap (λ (bs : List ℕ). first_variables bs n) (sym (append-nil gs)) ∙ variables_back n [] there lined)

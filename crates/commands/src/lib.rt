@@ -2,6 +2,9 @@
 // measured value and a tag with descriptor and date are.
 #![tactic(auto)]
 
+ghost use Rattle.std.specs.Prelude.{◌≡◌};
+ghost use Rattle.framing.specs.Payload.{data_of};
+
 mod identity;
 pub mod read_device_id;
 pub mod read_device_vars;
@@ -15,3 +18,12 @@ pub use identity::DeviceIdentity;
 pub use packed_string::Mode;
 pub use reading::{Reading, value_of};
 pub use tag_descriptor_date::TagDescriptorDate;
+
+use framing::Frame;
+
+// A frame's own data: the first `length` bytes of its array, without the zeros behind them.
+pub(crate) fn data_of(frame: &Frame) -> &[u8]
+    ensures { result.now ≡ data_of frame.now }
+{
+    &frame.data[..frame.length as usize]
+}

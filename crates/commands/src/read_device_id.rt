@@ -7,6 +7,7 @@ ghost use Rattle.framing.specs.Requests.{asked, asked_of, no_data};
 ghost use Rattle.commands.specs.Identity.{identified_of, identity, command0};
 ghost use Rattle.commands.specs.Responses.{identity_responded};
 
+use crate::data_of;
 use crate::identity::{DeviceIdentity, read_identity, write_identity};
 use framing::{Frame, request_verdict};
 use refusal::Refusal;
@@ -33,14 +34,11 @@ pub fn read_frame(frame_type: FrameType, command: u8, data: &[u8]) -> Result<Dev
     read_identity(READ_DEVICE_ID, frame_type, command, data)
 }
 
-// The same of a frame that a decoder found: its data are the first `length` bytes of its array.
+// The same of a frame that a decoder found.
 pub fn read_response(frame: Frame) -> Result<DeviceIdentity, Refusal>
     ensures { identified_of result ≡ typed_of command0 frame }
 {
-    let frame_type = frame.frame_type;
-    let data = frame.data;
-    let length = frame.length as usize;
-    read_frame(frame_type, frame.command, &data[0..length])
+    read_frame(frame.frame_type, frame.command, data_of(&frame))
 }
 
 // Whether a frame is this request, as a device reads it. There are no data to look at.
@@ -54,8 +52,7 @@ pub fn read_request_frame(frame_type: FrameType, command: u8) -> Result<(), Refu
 pub fn read_request(frame: Frame) -> Result<(), Refusal>
     ensures { judgement_of result ≡ asked_of (no_data 0) frame }
 {
-    let frame_type = frame.frame_type;
-    read_request_frame(frame_type, frame.command)
+    read_request_frame(frame.frame_type, frame.command)
 }
 
 // Writes a device's response: the two status bytes and the identity.

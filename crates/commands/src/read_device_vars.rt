@@ -1,18 +1,17 @@
 // Command 9 (commands/read_device_vars.rs): the request, the response in the Rust's reading and in the
 // standard one (ADDED), and the response straight from a frame; and the same from the device's side (document
 // 02, 1/12), whose responses have the standard layout.
-ghost use Rattle.std.specs.Prelude.{Ok, ◌≡◌, ◌+◌, ◌≤◌, ◌<◌, length, get_or};
+ghost use Rattle.std.specs.Prelude.{Ok, ◌≡◌, ◌+◌, ◌≤◌, length};
 ghost use Rattle.refusal.specs.Outcome.{ends, reply_of};
 ghost use Rattle.commands.specs.Worth.{worth_of, worth};
 ghost use Rattle.framing.specs.Payload.{typed_in, typed_of};
 ghost use Rattle.framing.specs.Requests.{asked_in, asked_of};
 ghost use Rattle.commands.specs.Responses.{variables_responded};
-ghost use Rattle.commands.specs.Variables.{codes_requested, variable_at, group_bytes, no_variable, groups_of, variables_of, groups_read, variables_read, command9, codes_of, codes_read, request9};
+ghost use Rattle.commands.specs.Variables.{codes_requested, variable_at, group_bytes, no_variable, variables_of, groups_read, variables_read, command9, codes_of, codes_read, request9};
 ghost use Rattle.response.specs.Sizes.{most_variables, group_size};
-ghost use Rattle.response.specs.Field.{field_of};
-ghost use Rattle.response.specs.declared.field.Kind.TheVariants.{Group};
 ghost use Rattle.commands.specs.Code.{variables_fields};
 
+use crate::data_of;
 use crate::reading::{Reading, value_of};
 use framing::{Frame, request_verdict, typed_payload};
 use octets::{copy_into, decode_u32_be, encode_u32_be};
@@ -124,30 +123,17 @@ fn no_variable() -> DeviceVariable
     }
 }
 
-fn whole_groups(length: usize) -> usize
-    ensures { result ≡ groups_of length }
-{
-    if length / GROUP_SIZE < MAX_DEVICE_VARS {
-        length / GROUP_SIZE
-    } else {
-        MAX_DEVICE_VARS
-    }
-}
-
 // The whole groups from the front on, up to eight.
 fn decode_groups(data: &[u8]) -> ReadDeviceVarsResponse
     ensures { variables_of (Ok result) ≡ groups_read «data».now }
 {
-    let none = no_variable();
-    let mut variables = [none; MAX_DEVICE_VARS];
-    let n_vars = whole_groups(data.len());
-    let mut i = 0;
-    while i < n_vars {
+    let mut variables = [no_variable(); MAX_DEVICE_VARS];
+    let count = (data.len() / GROUP_SIZE).min(MAX_DEVICE_VARS);
+    for i in 0..count {
         variables[i] = variable_at(data, i * GROUP_SIZE);
-        i += 1;
     }
     ReadDeviceVarsResponse {
-        count: n_vars as u8,
+        count: count as u8,
         variables,
     }
 }
@@ -178,21 +164,18 @@ pub fn read_frame(
     decode_data(mode, payload)
 }
 
-// The same of a frame that a decoder found: its data are the first `length` bytes of its array.
+// The same of a frame that a decoder found.
 pub fn read_response(mode: Mode, frame: Frame) -> Result<ReadDeviceVarsResponse, Refusal>
     ensures { variables_of result ≡ typed_of (command9 mode) frame }
 {
-    let frame_type = frame.frame_type;
-    let data = frame.data;
-    let length = frame.length as usize;
-    read_frame(mode, frame_type, frame.command, &data[0..length])
+    read_frame(mode, frame.frame_type, frame.command, data_of(&frame))
 }
 
 // The first eight codes count, and those past them are not looked at.
 fn read_codes(data: &[u8]) -> Result<ReadDeviceVarsRequest, Refusal>
     ensures { codes_of result ≡ codes_read «data».now }
 {
-    if data.len() < 1 {
+    if data.is_empty() {
         return Err(Refusal::BufferTooShort);
     }
     let count = MAX_DEVICE_VARS.min(data.len());
@@ -220,59 +203,42 @@ pub fn read_request_frame(
 pub fn read_request(frame: Frame) -> Result<ReadDeviceVarsRequest, Refusal>
     ensures { codes_of result ≡ asked_of request9 frame }
 {
-    let frame_type = frame.frame_type;
-    let data = frame.data;
-    let length = frame.length as usize;
-    read_request_frame(frame_type, frame.command, &data[0..length])
+    read_request_frame(frame.frame_type, frame.command, data_of(&frame))
 }
 
-fn group_at(variables: [DeviceVariable; MAX_DEVICE_VARS], i: usize) -> Field
-    requires { i < most_variables }
-    ensures { result ≡ field_of Group (group_bytes (get_or variables i no_variable)) }
-{
-    let variable = variables[i];
-    Field::group(variable.encode())
-}
-
-// The fields of a response with the groups of the first n variables.
+// The fields of a response with the groups of some variables.
 fn fields_of(
     first: u8,
     second: u8,
     extended: u8,
-    variables: [DeviceVariable; MAX_DEVICE_VARS],
-    n: usize,
+    variables: &[DeviceVariable],
 ) -> ResponseFields
-    requires { n ≤ most_variables }
-    ensures { result ≡ variables_fields first second extended variables n }
+    requires { length variables.now ≤ most_variables }
+    ensures { result ≡ variables_fields first second extended variables.now (length variables.now) }
 {
     let status = Field::status(first, second);
     let extended = Field::extended_status(extended);
     let mut fields = ResponseFields::new().with(status).with(extended);
-    let mut i = 0;
-    while i < n {
-        let group = group_at(variables, i);
-        fields = fields.with(group);
-        i += 1;
+    for variable in variables {
+        fields = fields.with(Field::group(variable.encode()));
     }
     fields
 }
 
-// Writes a device's response: the two status bytes, the extended status and the groups of the first `count`
-// variables, of which there are eight at most.
+// Writes a device's response: the two status bytes, the extended status and the groups of the variables, of which
+// there are eight at most.
 pub fn encode_response(
     first: u8,
     second: u8,
     extended: u8,
-    variables: [DeviceVariable; MAX_DEVICE_VARS],
-    count: u8,
+    variables: &[DeviceVariable],
     payload: &mut [u8],
 ) -> Result<usize, Refusal>
-    ensures { ends (reply_of result) payload.new ≡ variables_responded first second extended variables count payload.old }
+    ensures { ends (reply_of result) payload.new ≡ variables_responded first second extended variables.now (length variables.now) payload.old }
 {
-    let n = count as usize;
-    if n > MAX_DEVICE_VARS {
+    if variables.len() > MAX_DEVICE_VARS {
         return Err(Refusal::DataTooLong);
     }
-    let fields = fields_of(first, second, extended, variables, n);
+    let fields = fields_of(first, second, extended, variables);
     write_response(fields, payload)
 }

@@ -7,13 +7,13 @@ ghost use Rattle.framing.specs.Requests.{asked, asked_of, no_data};
 ghost use Rattle.commands.specs.Responses.{tag_descriptor_date_responded};
 ghost use Rattle.commands.specs.TagDescriptorDate.{fields_of, fields_read, command13};
 
+use crate::data_of;
 use crate::tag_descriptor_date::{
     TagDescriptorDate, read_layout, read_texts, write_texts_and_date,
 };
 use framing::{Frame, request_verdict};
 use packed_string::Mode;
 use refusal::Refusal;
-use response::{DESCRIPTOR_LENGTH, TAG_LENGTH};
 use types::FrameType;
 use types::consts::commands::READ_TAG_DESCRIPTOR_DATE;
 
@@ -37,14 +37,11 @@ pub fn read_frame(mode: Mode, frame_type: FrameType, command: u8, data: &[u8]) -
     read_texts(READ_TAG_DESCRIPTOR_DATE, mode, frame_type, command, data)
 }
 
-// The same of a frame that a decoder found: its data are the first `length` bytes of its array.
+// The same of a frame that a decoder found.
 pub fn read_response(mode: Mode, frame: Frame) -> Result<TagDescriptorDate, Refusal>
     ensures { fields_of result ≡ typed_of (command13 mode) frame }
 {
-    let frame_type = frame.frame_type;
-    let data = frame.data;
-    let length = frame.length as usize;
-    read_frame(mode, frame_type, frame.command, &data[0..length])
+    read_frame(mode, frame.frame_type, frame.command, data_of(&frame))
 }
 
 // Whether a frame is this request, as a device reads it. There are no data to look at.
@@ -58,8 +55,7 @@ pub fn read_request_frame(frame_type: FrameType, command: u8) -> Result<(), Refu
 pub fn read_request(frame: Frame) -> Result<(), Refusal>
     ensures { judgement_of result ≡ asked_of (no_data 13) frame }
 {
-    let frame_type = frame.frame_type;
-    read_request_frame(frame_type, frame.command)
+    read_request_frame(frame.frame_type, frame.command)
 }
 
 // Writes a device's response: the two status bytes, the tag, the descriptor and the date.
@@ -67,16 +63,10 @@ pub fn encode_response(
     mode: Mode,
     first: u8,
     second: u8,
-    tag: [u8; TAG_LENGTH],
-    descriptor: [u8; DESCRIPTOR_LENGTH],
-    day: u8,
-    month: u8,
-    year: u8,
+    texts: TagDescriptorDate,
     payload: &mut [u8],
 ) -> Result<usize, Refusal>
-    ensures { ends (reply_of result) payload.new ≡ tag_descriptor_date_responded mode first second tag descriptor day month year payload.old }
+    ensures { ends (reply_of result) payload.new ≡ tag_descriptor_date_responded mode first second texts.tag texts.descriptor texts.day texts.month texts.year payload.old }
 {
-    write_texts_and_date(
-        mode, first, second, tag, descriptor, day, month, year, payload,
-    )
+    write_texts_and_date(mode, first, second, texts, payload)
 }

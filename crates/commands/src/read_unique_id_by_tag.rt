@@ -10,6 +10,7 @@ ghost use Rattle.packed_string.specs.Modes.{unpacked_text};
 ghost use Rattle.commands.specs.Tag.{tag_requested, command11, tagged_of, tag_read, request11};
 ghost use Rattle.commands.specs.Responses.{identity_responded};
 
+use crate::data_of;
 use crate::identity::{DeviceIdentity, read_identity, write_identity};
 use crate::tag_descriptor_date::TAG_SIZE;
 use framing::{Frame, request_verdict};
@@ -56,14 +57,11 @@ pub fn read_frame(frame_type: FrameType, command: u8, data: &[u8]) -> Result<Dev
     read_identity(READ_UNIQUE_ID_BY_TAG, frame_type, command, data)
 }
 
-// The same of a frame that a decoder found: its data are the first `length` bytes of its array.
+// The same of a frame that a decoder found.
 pub fn read_response(frame: Frame) -> Result<DeviceIdentity, Refusal>
     ensures { identified_of result ≡ typed_of command11 frame }
 {
-    let frame_type = frame.frame_type;
-    let data = frame.data;
-    let length = frame.length as usize;
-    read_frame(frame_type, frame.command, &data[0..length])
+    read_frame(frame.frame_type, frame.command, data_of(&frame))
 }
 
 // Bytes past the packed tag are not looked at.
@@ -95,10 +93,7 @@ pub fn read_request_frame(
 pub fn read_request(mode: Mode, frame: Frame) -> Result<ReadUniqueIdByTagRequest, Refusal>
     ensures { tagged_of result ≡ asked_of (request11 mode) frame }
 {
-    let frame_type = frame.frame_type;
-    let data = frame.data;
-    let length = frame.length as usize;
-    read_request_frame(mode, frame_type, frame.command, &data[0..length])
+    read_request_frame(mode, frame.frame_type, frame.command, data_of(&frame))
 }
 
 // Writes a device's response: the two status bytes and the identity.

@@ -44,35 +44,30 @@ pub struct TagDescriptorDate {
 // both.
 pub(crate) fn bad_place_in_texts(
     mode: Mode,
-    tag: [u8; TAG_LENGTH],
-    descriptor: [u8; DESCRIPTOR_LENGTH],
+    texts: TagDescriptorDate,
 ) -> usize
-    ensures { result ≡ bad_in mode (tag ++ descriptor) }
+    ensures { result ≡ bad_in mode (texts.tag ++ texts.descriptor) }
 {
-    let place = bad_place_in(mode, &tag);
+    let place = bad_place_in(mode, &texts.tag);
     if place < TAG_LENGTH {
         return place;
     }
-    TAG_LENGTH + bad_place_in(mode, &descriptor)
+    TAG_LENGTH + bad_place_in(mode, &texts.descriptor)
 }
 
 pub(crate) fn write_layout(
     mode: Mode,
-    tag: [u8; TAG_LENGTH],
-    descriptor: [u8; DESCRIPTOR_LENGTH],
-    day: u8,
-    month: u8,
-    year: u8,
+    texts: TagDescriptorDate,
     buf: &mut [u8],
 )
-    requires { (layout_size ≤ length buf.old) × (texts_length ≤ bad_in mode (tag ++ descriptor)) }
-    ensures { buf.new ≡ put buf.old 0 (tag_descriptor_date_layout mode tag descriptor day month year) }
+    requires { (layout_size ≤ length buf.old) × (texts_length ≤ bad_in mode (texts.tag ++ texts.descriptor)) }
+    ensures { buf.new ≡ put buf.old 0 (tag_descriptor_date_layout mode texts.tag texts.descriptor texts.day texts.month texts.year) }
 {
-    let _ = encode_in(mode, &tag, &mut buf[0..TAG_SIZE]);
-    let _ = encode_in(mode, &descriptor, &mut buf[TAG_SIZE..DAY_AT]);
-    buf[DAY_AT] = day;
-    buf[MONTH_AT] = month;
-    buf[YEAR_AT] = year;
+    let _ = encode_in(mode, &texts.tag, &mut buf[0..TAG_SIZE]);
+    let _ = encode_in(mode, &texts.descriptor, &mut buf[TAG_SIZE..DAY_AT]);
+    buf[DAY_AT] = texts.day;
+    buf[MONTH_AT] = texts.month;
+    buf[YEAR_AT] = texts.year;
 }
 
 // Bytes past the layout are not looked at.
@@ -114,38 +109,30 @@ fn fields_of(
     mode: Mode,
     first: u8,
     second: u8,
-    tag: [u8; TAG_LENGTH],
-    descriptor: [u8; DESCRIPTOR_LENGTH],
-    day: u8,
-    month: u8,
-    year: u8,
+    texts: TagDescriptorDate,
 ) -> ResponseFields
-    ensures { result ≡ texts_fields mode first second tag descriptor day month year }
+    ensures { result ≡ texts_fields mode first second texts.tag texts.descriptor texts.day texts.month texts.year }
 {
     let status = Field::status(first, second);
-    let tag = Field::tag(mode, tag);
-    let descriptor = Field::descriptor(mode, descriptor);
-    let date = Field::date(day, month, year);
-    let texts = ResponseFields::new()
+    let tag = Field::tag(mode, texts.tag);
+    let descriptor = Field::descriptor(mode, texts.descriptor);
+    let date = Field::date(texts.day, texts.month, texts.year);
+    ResponseFields::new()
         .with(status)
         .with(tag)
-        .with(descriptor);
-    texts.with(date)
+        .with(descriptor)
+        .with(date)
 }
 
 pub(crate) fn write_texts_and_date(
     mode: Mode,
     first: u8,
     second: u8,
-    tag: [u8; TAG_LENGTH],
-    descriptor: [u8; DESCRIPTOR_LENGTH],
-    day: u8,
-    month: u8,
-    year: u8,
+    texts: TagDescriptorDate,
     payload: &mut [u8],
 ) -> Result<usize, Refusal>
-    ensures { ends (reply_of result) payload.new ≡ tag_descriptor_date_responded mode first second tag descriptor day month year payload.old }
+    ensures { ends (reply_of result) payload.new ≡ tag_descriptor_date_responded mode first second texts.tag texts.descriptor texts.day texts.month texts.year payload.old }
 {
-    let fields = fields_of(mode, first, second, tag, descriptor, day, month, year);
+    let fields = fields_of(mode, first, second, texts);
     write_response(fields, payload)
 }

@@ -8,6 +8,7 @@ ghost use Rattle.framing.specs.Requests.{asked_in, asked_of};
 ghost use Rattle.commands.specs.Responses.{tag_descriptor_date_responded};
 ghost use Rattle.commands.specs.TagDescriptorDate.{tag_descriptor_date_requested, fields_of, fields_read, command18};
 
+use crate::data_of;
 use crate::tag_descriptor_date::{
     LAYOUT_SIZE, TEXTS_LENGTH, TagDescriptorDate, bad_place_in_texts, read_layout, read_texts,
     write_layout, write_texts_and_date,
@@ -15,30 +16,25 @@ use crate::tag_descriptor_date::{
 use framing::{Frame, request_verdict};
 use packed_string::Mode;
 use refusal::Refusal;
-use response::{DESCRIPTOR_LENGTH, TAG_LENGTH};
 use types::FrameType;
 use types::consts::commands::WRITE_TAG_DESCRIPTOR_DATE;
 
 // Every character is looked at before the first byte is written.
 pub fn encode_data(
     mode: Mode,
-    tag: [u8; TAG_LENGTH],
-    descriptor: [u8; DESCRIPTOR_LENGTH],
-    day: u8,
-    month: u8,
-    year: u8,
+    texts: TagDescriptorDate,
     buf: &mut [u8],
 ) -> Result<usize, Refusal>
-    ensures { ends (reply_of result) buf.new ≡ tag_descriptor_date_requested mode tag descriptor day month year buf.old }
+    ensures { ends (reply_of result) buf.new ≡ tag_descriptor_date_requested mode texts.tag texts.descriptor texts.day texts.month texts.year buf.old }
 {
     if buf.len() < LAYOUT_SIZE {
         return Err(Refusal::BufferTooSmall);
     }
-    let place = bad_place_in_texts(mode, tag, descriptor);
+    let place = bad_place_in_texts(mode, texts);
     if place < TEXTS_LENGTH {
         return Err(Refusal::BadCharacter(place));
     }
-    write_layout(mode, tag, descriptor, day, month, year, buf);
+    write_layout(mode, texts, buf);
     Ok(LAYOUT_SIZE)
 }
 
@@ -55,14 +51,11 @@ pub fn read_frame(mode: Mode, frame_type: FrameType, command: u8, data: &[u8]) -
     read_texts(WRITE_TAG_DESCRIPTOR_DATE, mode, frame_type, command, data)
 }
 
-// The same of a frame that a decoder found: its data are the first `length` bytes of its array.
+// The same of a frame that a decoder found.
 pub fn read_response(mode: Mode, frame: Frame) -> Result<TagDescriptorDate, Refusal>
     ensures { fields_of result ≡ typed_of (command18 mode) frame }
 {
-    let frame_type = frame.frame_type;
-    let data = frame.data;
-    let length = frame.length as usize;
-    read_frame(mode, frame_type, frame.command, &data[0..length])
+    read_frame(mode, frame.frame_type, frame.command, data_of(&frame))
 }
 
 // The fields that a request has, as a device reads them.
@@ -82,10 +75,7 @@ pub fn read_request_frame(
 pub fn read_request(mode: Mode, frame: Frame) -> Result<TagDescriptorDate, Refusal>
     ensures { fields_of result ≡ asked_of (command18 mode) frame }
 {
-    let frame_type = frame.frame_type;
-    let data = frame.data;
-    let length = frame.length as usize;
-    read_request_frame(mode, frame_type, frame.command, &data[0..length])
+    read_request_frame(mode, frame.frame_type, frame.command, data_of(&frame))
 }
 
 // Writes a device's response: the two status bytes and the fields as they were written.
@@ -93,16 +83,10 @@ pub fn encode_response(
     mode: Mode,
     first: u8,
     second: u8,
-    tag: [u8; TAG_LENGTH],
-    descriptor: [u8; DESCRIPTOR_LENGTH],
-    day: u8,
-    month: u8,
-    year: u8,
+    texts: TagDescriptorDate,
     payload: &mut [u8],
 ) -> Result<usize, Refusal>
-    ensures { ends (reply_of result) payload.new ≡ tag_descriptor_date_responded mode first second tag descriptor day month year payload.old }
+    ensures { ends (reply_of result) payload.new ≡ tag_descriptor_date_responded mode first second texts.tag texts.descriptor texts.day texts.month texts.year payload.old }
 {
-    write_texts_and_date(
-        mode, first, second, tag, descriptor, day, month, year, payload,
-    )
+    write_texts_and_date(mode, first, second, texts, payload)
 }

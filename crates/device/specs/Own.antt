@@ -2,6 +2,7 @@
 use Rattle.std.specs.Prelude.{ℕ, cond, List, [], ◌∷◌, eqb}
 use Rattle.commands.specs.declared.identity.DeviceIdentity.{DeviceIdentity}
 use Rattle.commands.specs.declared.read_device_vars.DeviceVariable.{DeviceVariable}
+use Rattle.commands.specs.declared.tag_descriptor_date.TagDescriptorDate.{TagDescriptorDate}
 use Rattle.commands.specs.Variables.{variable}
 
 unfoldable pub own_identity : DeviceIdentity
@@ -35,6 +36,9 @@ own_month = 12
 
 abbrev pub own_year : ℕ
 own_year = 126
+
+abbrev pub own_texts : TagDescriptorDate
+own_texts = record { tag = own_tag; descriptor = own_descriptor; day = own_day; month = own_month; year = own_year }
 
 -- the variable of a code: level 7.25 m, volume 1450 m³, temperature 18.5 °C and loop current 12 mA, each good; a code that it has not
 -- gets no class, the unit of what is not used, the bits of what is no number, and a bad status

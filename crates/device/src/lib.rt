@@ -24,7 +24,7 @@ use commands::{
     write_tag_descriptor_date,
 };
 use framing::{Frame, encode_frame};
-use own::{DAY, MONTH, YEAR, own_descriptor, own_identity, own_tag, own_variable};
+use own::{own_identity, own_tag, own_texts, own_variable};
 use refusal::Refusal;
 use response::GROUPS_END;
 use types::consts::MIN_PREAMBLE_COUNT;
@@ -67,7 +67,8 @@ fn tell_variables(frame: Frame, payload: &mut [u8]) -> Option<usize>
         return tell_status(TOO_FEW_BYTES, payload);
     };
     let variables = request.codes.map(own_variable);
-    read_device_vars::encode_response(0, 0, 0, variables, request.count, payload).ok()
+    let asked = &variables[..request.count as usize];
+    read_device_vars::encode_response(0, 0, 0, asked, payload).ok()
 }
 
 // Command 11: another tag means another device, and that one answers.
@@ -90,20 +91,7 @@ fn tell_texts(frame: Frame, payload: &mut [u8]) -> Option<usize>
     ensures { spoken_by result payload.new ≡ describes }
 {
     read_tag_descriptor_date::read_request(frame).ok()?;
-    let tag = own_tag();
-    let descriptor = own_descriptor();
-    read_tag_descriptor_date::encode_response(
-        Mode::Standard,
-        0,
-        0,
-        tag,
-        descriptor,
-        DAY,
-        MONTH,
-        YEAR,
-        payload,
-    )
-    .ok()
+    read_tag_descriptor_date::encode_response(Mode::Standard, 0, 0, own_texts(), payload).ok()
 }
 
 // Command 18: the fields as they were sent. The device is fixed, and keeps none of them.
@@ -114,18 +102,7 @@ fn tell_back(frame: Frame, payload: &mut [u8]) -> Option<usize>
     let Ok(request) = write_tag_descriptor_date::read_request(Mode::Standard, frame) else {
         return tell_status(TOO_FEW_BYTES, payload);
     };
-    write_tag_descriptor_date::encode_response(
-        Mode::Standard,
-        0,
-        0,
-        request.tag,
-        request.descriptor,
-        request.day,
-        request.month,
-        request.year,
-        payload,
-    )
-    .ok()
+    write_tag_descriptor_date::encode_response(Mode::Standard, 0, 0, request, payload).ok()
 }
 
 fn tell_request(frame: Frame, payload: &mut [u8]) -> Option<usize>

@@ -2,19 +2,12 @@
 // its memory and its sensors.
 ghost use Rattle.std.specs.Prelude.{◌≡◌};
 ghost use Rattle.commands.specs.Variables.{variable};
-ghost use Rattle.device.specs.Own.{own_identity, own_tag, own_descriptor, own_variable};
+ghost use Rattle.device.specs.Own.{own_identity, own_tag, own_texts, own_variable};
 
 use commands::read_device_vars::DeviceVariable;
-use commands::{DeviceIdentity, value_of};
-use response::{DESCRIPTOR_LENGTH, TAG_LENGTH};
+use commands::{DeviceIdentity, TagDescriptorDate, value_of};
+use response::TAG_LENGTH;
 use types::consts::MIN_PREAMBLE_COUNT;
-
-// 31 December 2026: years are counted from 1900.
-pub(crate) const DAY: u8 = 31;
-
-pub(crate) const MONTH: u8 = 12;
-
-pub(crate) const YEAR: u8 = 126;
 
 pub(crate) fn own_identity() -> DeviceIdentity
     ensures { result ≡ own_identity }
@@ -39,10 +32,17 @@ pub(crate) fn own_tag() -> [u8; TAG_LENGTH]
     *b"TANK-07 "
 }
 
-pub(crate) fn own_descriptor() -> [u8; DESCRIPTOR_LENGTH]
-    ensures { result ≡ own_descriptor }
+// 31 December 2026: years are counted from 1900.
+pub(crate) fn own_texts() -> TagDescriptorDate
+    ensures { result ≡ own_texts }
 {
-    *b"CRUDE OIL LEVEL "
+    TagDescriptorDate {
+        tag: own_tag(),
+        descriptor: *b"CRUDE OIL LEVEL ",
+        day: 31,
+        month: 12,
+        year: 126,
+    }
 }
 
 fn variable(code: u8, class: u8, unit: u8, bits: u32, status: u8) -> DeviceVariable

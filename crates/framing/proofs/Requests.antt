@@ -16,7 +16,7 @@ use Rattle.types.specs.declared.delimiter.FrameType.TheVariants.{Request, Respon
 use Rattle.line.specs.Layout.{Wire}
 use Rattle.line.specs.machine.Frames.{frame_of}
 use Rattle.line.specs.declared.frame.Frame.{Frame}
-use Rattle.framing.specs.Payload.{Judgement, carries, withheld, judgement_of, Reader}
+use Rattle.framing.specs.Payload.{Judgement, carries, withheld, judgement_of, Reader, data_of}
 use Rattle.framing.specs.Requests.{read_on, request_judgement, asked, asked_in, asked_of, no_data}
 use Rattle.framing.proofs.Payloads.{frame_data}
 
@@ -63,9 +63,9 @@ module _ {A : Type 0} (k : Reader A) where
       asks_refused told = sym (judged_as (sym said ∙ ap judgement_of told))
 
   -- what was read of a frame's own data, as they are lent, was read of the frame
-  pub asks_lent : (f : Frame) {x : A} → x ≡ asked_in k f.frame_type f.command (take (f.length - 0) f.«data») → x ≡ asked_of k f
+  pub asks_lent : (f : Frame) {x : A} {ds : List ℕ} → ds ≡ data_of f → x ≡ asked_in k f.frame_type f.command ds → x ≡ asked_of k f
   unfolding asked_of
-  asks_lent f e = e ∙ ap (λ (n : ℕ). asked_in k f.frame_type f.command (take n f.«data»)) (sub-zero f.length)
+  asks_lent f lent e = e ∙ ap (asked_in k f.frame_type f.command) lent
 
   -- of a frame as it was heard: the reading of what stood on the line
   pub asks_wire : (w : Wire) → asked_of k (frame_of w) ≡ asked_in k w.opening.frame_type w.command w.payload

@@ -17,7 +17,7 @@ use Rattle.types.specs.declared.delimiter.FrameType.TheVariants.{Request}
 use Rattle.line.specs.Layout.{Wire}
 use Rattle.line.specs.machine.Frames.{frame_of}
 use Rattle.line.specs.declared.frame.Frame.{Frame}
-use Rattle.framing.specs.Payload.{Judgement, carries, withheld, payload_judgement, handed, kept, portion_of, portion, typed, Reader, passed_on, typed_in, typed_of}
+use Rattle.framing.specs.Payload.{Judgement, carries, withheld, payload_judgement, handed, kept, portion_of, portion, typed, Reader, passed_on, typed_in, data_of, typed_of}
 use Rattle.framing.proofs.Payloads.{typed_same, typed_other, frame_data}
 
 module _ {A : Type 0} (k : Reader A) where
@@ -64,9 +64,9 @@ module _ {A : Type 0} (k : Reader A) where
         by (withheld number values) e = let n : number_of r ≡ number = cc in let vs : values_of r ≡ values = cc in ap₂ k.refuse n vs
 
   -- what was read of a frame's own data, as they are lent, was read of the frame
-  pub reads_lent : (f : Frame) {x : A} → x ≡ typed_in k f.frame_type f.command (take (f.length - 0) f.«data») → x ≡ typed_of k f
+  pub reads_lent : (f : Frame) {x : A} {ds : List ℕ} → ds ≡ data_of f → x ≡ typed_in k f.frame_type f.command ds → x ≡ typed_of k f
   unfolding typed_of
-  reads_lent f e = e ∙ ap (λ (n : ℕ). typed_in k f.frame_type f.command (take n f.«data»)) (sub-zero f.length)
+  reads_lent f lent e = e ∙ ap (typed_in k f.frame_type f.command) lent
 
   -- of a frame as it was heard: the reading of what stood on the line
   pub reads_wire : (w : Wire) → typed_of k (frame_of w) ≡ typed_in k w.opening.frame_type w.command w.payload

@@ -4,10 +4,9 @@ use crate::output::{Answered, Output};
 use crate::writers::put_written;
 use commands::read_device_vars::{DeviceVariable, MAX_DEVICE_VARS};
 use commands::{
-    DeviceIdentity, Mode, read_device_id, read_device_vars, read_tag_descriptor_date,
+    DeviceIdentity, TagDescriptorDate, read_device_id, read_device_vars, read_tag_descriptor_date,
     read_unique_id_by_tag, value_of, write_tag_descriptor_date,
 };
-use response::{DESCRIPTOR_LENGTH, TAG_LENGTH};
 
 fn read_identity(given: &mut Given) -> Result<DeviceIdentity, NoCase> {
     let expansion_code = given.byte()?;
@@ -48,8 +47,11 @@ fn read_variable(given: &mut Given) -> Result<DeviceVariable, NoCase> {
     })
 }
 
+// The count of a case's variables is a byte, and may be of more than there can be.
+const MOST_COUNTED: usize = 255;
+
 // Behind the groups that there are, the variables are of zeros.
-fn read_variables(given: &mut Given) -> Result<[DeviceVariable; MAX_DEVICE_VARS], NoCase> {
+fn read_variables(given: &mut Given) -> Result<[DeviceVariable; MOST_COUNTED], NoCase> {
     let mut variables = [DeviceVariable {
         device_var_code: 0,
         classification: 0,
@@ -57,8 +59,8 @@ fn read_variables(given: &mut Given) -> Result<[DeviceVariable; MAX_DEVICE_VARS]
         value: value_of(0),
         bits: 0,
         status: 0,
-    }; MAX_DEVICE_VARS];
-    for variable in variables.iter_mut() {
+    }; MOST_COUNTED];
+    for variable in variables.iter_mut().take(MAX_DEVICE_VARS) {
         if !given.is_empty() {
             *variable = read_variable(given)?;
         }
@@ -67,21 +69,13 @@ fn read_variables(given: &mut Given) -> Result<[DeviceVariable; MAX_DEVICE_VARS]
     Ok(variables)
 }
 
-// A tag, a descriptor and a date.
-#[derive(Drop)]
-struct Texts {
-    mode: Mode,
-    tag: [u8; TAG_LENGTH],
-    descriptor: [u8; DESCRIPTOR_LENGTH],
-    date: [u8; 3],
-}
-
-fn read_texts(given: &mut Given) -> Result<Texts, NoCase> {
-    let texts = Texts {
-        mode: given.mode()?,
+pub(crate) fn read_texts(given: &mut Given) -> Result<TagDescriptorDate, NoCase> {
+    let texts = TagDescriptorDate {
         tag: given.array()?,
         descriptor: given.array()?,
-        date: given.array()?,
+        day: given.byte()?,
+        month: given.byte()?,
+        year: given.byte()?,
     };
     given.end()?;
     Ok(texts)
@@ -107,46 +101,29 @@ pub(crate) fn write_response(mut given: Given, out: &mut Output) -> Answered {
                 first,
                 second,
                 extended,
-                variables,
-                count,
+                &variables[..count as usize],
                 buffer.lent(),
             )
         }
         Command::ReadTagDescriptorDate => {
-            let Texts {
-                mode,
-                tag,
-                descriptor,
-                date: [day, month, year],
-            } = read_texts(&mut given)?;
+            let mode = given.mode()?;
+            let texts = read_texts(&mut given)?;
             read_tag_descriptor_date::encode_response(
                 mode,
                 first,
                 second,
-                tag,
-                descriptor,
-                day,
-                month,
-                year,
+                texts,
                 buffer.lent(),
             )
         }
         Command::WriteTagDescriptorDate => {
-            let Texts {
-                mode,
-                tag,
-                descriptor,
-                date: [day, month, year],
-            } = read_texts(&mut given)?;
+            let mode = given.mode()?;
+            let texts = read_texts(&mut given)?;
             write_tag_descriptor_date::encode_response(
                 mode,
                 first,
                 second,
-                tag,
-                descriptor,
-                day,
-                month,
-                year,
+                texts,
                 buffer.lent(),
             )
         }

@@ -3,6 +3,7 @@ use crate::addresses::read_address;
 use crate::buffer::Buffer;
 use crate::given::{Command, Given, NoCase};
 use crate::output::{Answered, Output};
+use crate::responses::read_texts;
 use crate::shown::Told;
 use commands::{
     Mode, read_device_id, read_device_vars, read_tag_descriptor_date, read_unique_id_by_tag,
@@ -71,19 +72,8 @@ pub(crate) fn write_tag(mode: Mode, mut given: Given, out: &mut Output) -> Answe
 
 pub(crate) fn write_texts(mode: Mode, mut given: Given, out: &mut Output) -> Answered {
     let mut buffer = given.short_room()?;
-    let tag = given.array()?;
-    let descriptor = given.array()?;
-    let [day, month, year] = given.array::<3>()?;
-    given.end()?;
-    let written = write_tag_descriptor_date::encode_data(
-        mode,
-        tag,
-        descriptor,
-        day,
-        month,
-        year,
-        buffer.lent(),
-    );
+    let texts = read_texts(&mut given)?;
+    let written = write_tag_descriptor_date::encode_data(mode, texts, buffer.lent());
     put_written(written, buffer, out)?;
     Ok(())
 }

@@ -19,7 +19,7 @@ use Rattle.commands.proofs.write_tag_descriptor_date.read_request.Reads as read-
 use Rattle.commands.proofs.write_tag_descriptor_date.encode_response.Kinds as encode-response-kinds
 use Rattle.commands.proofs.write_tag_descriptor_date.encode_response.Reads as encode-response-reads
 
-pub encode_data : Determined 1 encode-data-kinds.ps encode-data-kinds.r encode-data-reads.Post (λ κs x. x.1.1.1.1.1.1.0.now)
+pub encode_data : Determined 1 encode-data-kinds.ps encode-data-kinds.r encode-data-reads.Post (λ κs x. x.1.1.0.now)
 encode_data κs a r s x y = agree reply_of written_known
 
 pub decode_data : Determined 1 decode-data-kinds.ps decode-data-kinds.r decode-data-reads.Post (λ κs x. tt {0})
@@ -37,5 +37,5 @@ read_request_frame κs a r s x y = λ p q. (fields_known r s (p ∙ sym q), refl
 pub read_request : Determined 0 read-request-kinds.ps read-request-kinds.r read-request-reads.Post (λ κs x. tt {0})
 read_request κs a r s x y = λ p q. (fields_known r s (p ∙ sym q), refl)
 
-pub encode_response : Determined 1 encode-response-kinds.ps encode-response-kinds.r encode-response-reads.Post (λ κs x. x.1.1.1.1.1.1.1.1.0.now)
+pub encode_response : Determined 1 encode-response-kinds.ps encode-response-kinds.r encode-response-reads.Post (λ κs x. x.1.1.1.1.0.now)
 encode_response κs a r s x y = agree reply_of written_known

@@ -4,4 +4,4 @@ use Rattle.commands.proofs.read_device_vars.decode_groups.Goals as goal
 
 pub loop-i-preserved : goal.loop-i-preserved
 loop-i-preserved c =
-    (omega arith, placed_turn _ _ c.loop-i.invariant.1 c.variable_at.ensures (omega arith))
+    placed_turn c.args.«data».now c.loop-i.i c.loop-i.invariant c.variable_at.ensures (omega (arith, c.min-count.ensures))

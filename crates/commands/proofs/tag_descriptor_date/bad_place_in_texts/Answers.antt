@@ -11,15 +11,17 @@ use Rattle.commands.proofs.tag_descriptor_date.bad_place_in_texts.Goals as goal
 pub returns-then-place-lt-TAG_LENGTH : goal.returns-then-place-lt-TAG_LENGTH
 returns-then-place-lt-TAG_LENGTH c =
     let a = c.args in
-    let place : c.bad_place_in-place.result ≡ bad_in a.mode a.tag = c.bad_place_in-place.ensures in
-    place ∙ sym (bad_in_tag a.tag a.descriptor (omega arith) (omega arith) a.mode (omega arith))
+    let t = a.texts in
+    let place : c.bad_place_in-place.result ≡ bad_in a.mode t.tag = c.bad_place_in-place.ensures in
+    place ∙ sym (bad_in_tag t.tag t.descriptor (omega arith) (omega arith) a.mode (omega arith))
 
 pub overflow_add-result : goal.overflow_add-result
-overflow_add-result c = let a = c.args in omega (arith, c.bad_place_in.ensures, bad_in_within a.mode a.descriptor)
+overflow_add-result c = let a = c.args in omega (arith, c.bad_place_in.ensures, bad_in_within a.mode a.texts.descriptor)
 
 pub returns : goal.returns
 returns c =
     let a = c.args in
-    let place : c.bad_place_in.result ≡ bad_in a.mode a.descriptor = c.bad_place_in.ensures in
+    let t = a.texts in
+    let place : c.bad_place_in.result ≡ bad_in a.mode t.descriptor = c.bad_place_in.ensures in
     ap (λ (n : ℕ). tag_length + n) place
-    ∙ sym (bad_beyond a.tag a.descriptor (omega arith) (omega arith) a.mode (omega (arith, c.bad_place_in-place.ensures)))
+    ∙ sym (bad_beyond t.tag t.descriptor (omega arith) (omega arith) a.mode (omega (arith, c.bad_place_in-place.ensures)))

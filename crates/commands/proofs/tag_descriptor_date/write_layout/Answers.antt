@@ -29,4 +29,5 @@ fields_written_lem mode tag descriptor day month year l {p = p} t d room good e 
 pub returns : goal.returns
 returns c =
     let a = c.args in
-    fields_written_lem a.mode a.tag a.descriptor a.day a.month a.year a.buf.now (omega arith) (omega arith) (omega arith) (omega arith) c.encode_in.ensures c.encode_in-2.ensures
+    let t = a.texts in
+    fields_written_lem a.mode t.tag t.descriptor t.day t.month t.year a.buf.now (omega arith) (omega arith) (omega arith) (omega arith) c.encode_in.ensures c.encode_in-2.ensures

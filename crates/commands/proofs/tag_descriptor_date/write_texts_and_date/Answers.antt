@@ -10,6 +10,7 @@ use Rattle.commands.proofs.tag_descriptor_date.write_texts_and_date.Goals as goa
 pub returns : goal.returns
 returns c =
     let a = c.args in
+    let t = a.texts in
     c.write_response.ensures
     ∙ ap (λ (f : ResponseFields). responded (field_at f) f.count a.payload.now) c.fields_of-fields.ensures
-    ∙ texts_responded a.first a.second a.mode a.tag a.descriptor a.day a.month a.year (omega arith) (omega arith) a.payload.now
+    ∙ texts_responded a.first a.second a.mode t.tag t.descriptor t.day t.month t.year (omega arith) (omega arith) a.payload.now

@@ -13,18 +13,21 @@ use Rattle.commands.proofs.write_tag_descriptor_date.encode_data.Goals as goal
 pub returns-then-buf-lt-LAYOUT_SIZE : goal.returns-then-buf-lt-LAYOUT_SIZE
 returns-then-buf-lt-LAYOUT_SIZE c =
     let a = c.args in
-    sym (requested_small a.mode a.tag a.descriptor a.day a.month a.year a.buf.now (omega arith))
+    let t = a.texts in
+    sym (requested_small a.mode t.tag t.descriptor t.day t.month t.year a.buf.now (omega arith))
 
 pub returns-then-place-lt-TEXTS_LENGTH : goal.returns-then-place-lt-TEXTS_LENGTH
 returns-then-place-lt-TEXTS_LENGTH c =
     let a = c.args in
-    let place : c.bad_place_in_texts-place.result ≡ bad_in a.mode (a.tag ++ a.descriptor) = c.bad_place_in_texts-place.ensures in
+    let t = a.texts in
+    let place : c.bad_place_in_texts-place.result ≡ bad_in a.mode (t.tag ++ t.descriptor) = c.bad_place_in_texts-place.ensures in
     ap (λ (n : ℕ). refuses 7 (n ∷ []) a.buf.now) place
-    ∙ sym (requested_bad a.mode a.tag a.descriptor a.day a.month a.year (omega arith) (omega arith) a.buf.now (omega arith) (omega arith))
+    ∙ sym (requested_bad a.mode t.tag t.descriptor t.day t.month t.year (omega arith) (omega arith) a.buf.now (omega arith) (omega arith))
 
 pub returns : goal.returns
 returns c =
     let a = c.args in
-    let good : texts_length ≤ bad_in a.mode (a.tag ++ a.descriptor) = omega (arith, c.bad_place_in_texts-place.ensures) in
-    put-wrote a.buf.now (tag_descriptor_date_layout a.mode a.tag a.descriptor a.day a.month a.year) c.write_layout.ensures (sym (length-layout a.mode a.tag a.descriptor a.day a.month a.year (omega arith) (omega arith)))
-    ∙ sym (requested_fits a.mode a.tag a.descriptor a.day a.month a.year (omega arith) (omega arith) a.buf.now (omega arith) good)
+    let t = a.texts in
+    let good : texts_length ≤ bad_in a.mode (t.tag ++ t.descriptor) = omega (arith, c.bad_place_in_texts-place.ensures) in
+    put-wrote a.buf.now (tag_descriptor_date_layout a.mode t.tag t.descriptor t.day t.month t.year) c.write_layout.ensures (sym (length-layout a.mode t.tag t.descriptor t.day t.month t.year (omega arith) (omega arith)))
+    ∙ sym (requested_fits a.mode t.tag t.descriptor t.day t.month t.year (omega arith) (omega arith) a.buf.now (omega arith) good)
