@@ -14,12 +14,11 @@ mod reading;
 mod tag_descriptor_date;
 pub mod write_tag_descriptor_date;
 
+use framing::Frame;
 pub use identity::DeviceIdentity;
 pub use packed_string::Mode;
 pub use reading::{Reading, value_of};
 pub use tag_descriptor_date::TagDescriptorDate;
-
-use framing::Frame;
 
 // A frame's own data: the first `length` bytes of its array, without the zeros behind them.
 pub(crate) fn data_of(frame: &Frame) -> &[u8]

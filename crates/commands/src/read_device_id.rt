@@ -28,7 +28,11 @@ pub fn decode_data(data: &[u8]) -> Result<DeviceIdentity, Refusal>
 }
 
 // The identity that a frame carries, or why it carries none.
-pub fn read_frame(frame_type: FrameType, command: u8, data: &[u8]) -> Result<DeviceIdentity, Refusal>
+pub fn read_frame(
+    frame_type: FrameType,
+    command: u8,
+    data: &[u8],
+) -> Result<DeviceIdentity, Refusal>
     ensures { identified_of result ≡ typed_in command0 frame_type command «data».now }
 {
     read_identity(READ_DEVICE_ID, frame_type, command, data)

@@ -207,12 +207,7 @@ pub fn read_request(frame: Frame) -> Result<ReadDeviceVarsRequest, Refusal>
 }
 
 // The fields of a response with the groups of some variables.
-fn fields_of(
-    first: u8,
-    second: u8,
-    extended: u8,
-    variables: &[DeviceVariable],
-) -> ResponseFields
+fn fields_of(first: u8, second: u8, extended: u8, variables: &[DeviceVariable]) -> ResponseFields
     requires { length variables.now ≤ most_variables }
     ensures { result ≡ variables_fields first second extended variables.now (length variables.now) }
 {

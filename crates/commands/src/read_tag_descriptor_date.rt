@@ -31,7 +31,12 @@ pub fn decode_data(mode: Mode, data: &[u8]) -> Result<TagDescriptorDate, Refusal
 }
 
 // The response that a frame carries, or why it carries none.
-pub fn read_frame(mode: Mode, frame_type: FrameType, command: u8, data: &[u8]) -> Result<TagDescriptorDate, Refusal>
+pub fn read_frame(
+    mode: Mode,
+    frame_type: FrameType,
+    command: u8,
+    data: &[u8],
+) -> Result<TagDescriptorDate, Refusal>
     ensures { fields_of result ≡ typed_in (command13 mode) frame_type command «data».now }
 {
     read_texts(READ_TAG_DESCRIPTOR_DATE, mode, frame_type, command, data)

@@ -51,7 +51,11 @@ pub fn decode_tag(mode: Mode, packed: [u8; TAG_SIZE]) -> [u8; TAG_LENGTH]
 }
 
 // The identity that a frame carries, or why it carries none.
-pub fn read_frame(frame_type: FrameType, command: u8, data: &[u8]) -> Result<DeviceIdentity, Refusal>
+pub fn read_frame(
+    frame_type: FrameType,
+    command: u8,
+    data: &[u8],
+) -> Result<DeviceIdentity, Refusal>
     ensures { identified_of result ≡ typed_in command11 frame_type command «data».now }
 {
     read_identity(READ_UNIQUE_ID_BY_TAG, frame_type, command, data)

@@ -42,10 +42,7 @@ pub struct TagDescriptorDate {
 
 // The place of the first character without a code, on through the tag and the descriptor, or the length of
 // both.
-pub(crate) fn bad_place_in_texts(
-    mode: Mode,
-    texts: TagDescriptorDate,
-) -> usize
+pub(crate) fn bad_place_in_texts(mode: Mode, texts: TagDescriptorDate) -> usize
     ensures { result ≡ bad_in mode (texts.tag ++ texts.descriptor) }
 {
     let place = bad_place_in(mode, &texts.tag);
@@ -55,11 +52,7 @@ pub(crate) fn bad_place_in_texts(
     TAG_LENGTH + bad_place_in(mode, &texts.descriptor)
 }
 
-pub(crate) fn write_layout(
-    mode: Mode,
-    texts: TagDescriptorDate,
-    buf: &mut [u8],
-)
+pub(crate) fn write_layout(mode: Mode, texts: TagDescriptorDate, buf: &mut [u8])
     requires { (layout_size ≤ length buf.old) × (texts_length ≤ bad_in mode (texts.tag ++ texts.descriptor)) }
     ensures { buf.new ≡ put buf.old 0 (tag_descriptor_date_layout mode texts.tag texts.descriptor texts.day texts.month texts.year) }
 {
@@ -105,12 +98,7 @@ pub(crate) fn read_texts(
 }
 
 // The fields of the response of commands 13 and 18.
-fn fields_of(
-    mode: Mode,
-    first: u8,
-    second: u8,
-    texts: TagDescriptorDate,
-) -> ResponseFields
+fn fields_of(mode: Mode, first: u8, second: u8, texts: TagDescriptorDate) -> ResponseFields
     ensures { result ≡ texts_fields mode first second texts.tag texts.descriptor texts.day texts.month texts.year }
 {
     let status = Field::status(first, second);

@@ -20,11 +20,7 @@ use types::FrameType;
 use types::consts::commands::WRITE_TAG_DESCRIPTOR_DATE;
 
 // Every character is looked at before the first byte is written.
-pub fn encode_data(
-    mode: Mode,
-    texts: TagDescriptorDate,
-    buf: &mut [u8],
-) -> Result<usize, Refusal>
+pub fn encode_data(mode: Mode, texts: TagDescriptorDate, buf: &mut [u8]) -> Result<usize, Refusal>
     ensures { ends (reply_of result) buf.new ≡ tag_descriptor_date_requested mode texts.tag texts.descriptor texts.day texts.month texts.year buf.old }
 {
     if buf.len() < LAYOUT_SIZE {
@@ -45,7 +41,12 @@ pub fn decode_data(mode: Mode, data: &[u8]) -> Result<TagDescriptorDate, Refusal
 }
 
 // The response that a frame carries, or why it carries none.
-pub fn read_frame(mode: Mode, frame_type: FrameType, command: u8, data: &[u8]) -> Result<TagDescriptorDate, Refusal>
+pub fn read_frame(
+    mode: Mode,
+    frame_type: FrameType,
+    command: u8,
+    data: &[u8],
+) -> Result<TagDescriptorDate, Refusal>
     ensures { fields_of result ≡ typed_in (command18 mode) frame_type command «data».now }
 {
     read_texts(WRITE_TAG_DESCRIPTOR_DATE, mode, frame_type, command, data)
