@@ -108,24 +108,12 @@ pub(crate) fn write_response(mut given: Given, out: &mut Output) -> Answered {
         Command::ReadTagDescriptorDate => {
             let mode = given.mode()?;
             let texts = read_texts(&mut given)?;
-            read_tag_descriptor_date::encode_response(
-                mode,
-                first,
-                second,
-                texts,
-                buffer.lent(),
-            )
+            read_tag_descriptor_date::encode_response(mode, first, second, texts, buffer.lent())
         }
         Command::WriteTagDescriptorDate => {
             let mode = given.mode()?;
             let texts = read_texts(&mut given)?;
-            write_tag_descriptor_date::encode_response(
-                mode,
-                first,
-                second,
-                texts,
-                buffer.lent(),
-            )
+            write_tag_descriptor_date::encode_response(mode, first, second, texts, buffer.lent())
         }
     };
     put_written(written, buffer, out)?;
