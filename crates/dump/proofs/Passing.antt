@@ -19,9 +19,9 @@ use Rattle.streams.specs.Passing.{HandsOver, HearsFront}
 use Rattle.dump.specs.Passing.{lines_of, lines_after, lines_said}
 
 -- one call of `take`
-pub take_hears : (d : Dump) (src out : List ℕ) {t : Taken} {last : List ℕ} → t ≡ taken d src (length out) → last ≡ put out 0 (printed d (taking d src (length out))) → length last ≡ length out
-    → 0 < length src → line_max ≤ length out → HearsFront lines_after lines_said (lines_of d) src (lines_of t.dump) last (record { used = t.used; written = t.written })
-take_hears d src out {t} {last} e f same any room =
+pub take_hears : (d : Dump) (src out : List ℕ) {t : Taken} {next : Dump} {last : List ℕ} → t ≡ taken d src (length out) → next ≡ after d (taking d src (length out)) → last ≡ put out 0 (printed d (taking d src (length out)))
+    → length last ≡ length out → 0 < length src → line_max ≤ length out → HearsFront lines_after lines_said (lines_of d) src (lines_of next) last (record { used = t.used; written = t.written })
+take_hears d src out {t} {next} {last} e n f same any room =
     let text : List ℕ = printed d (take t.used src) in
     let lines : printed d (taking d src (length out)) ≡ text = ap (λ (x : Taken). printed d (take x.used src)) (sym e) in
     let size : t.written ≡ length text = ap (λ (x : Taken). x.written) e ∙ ap length lines in
@@ -29,7 +29,7 @@ take_hears d src out {t} {last} e f same any room =
     record {
       some = used_some d src out e any room;
       within = used_within d src out e;
-      behind = ap (λ (x : Taken). lines_of x.dump) e ∙ ap (λ (x : Taken). lines_of (after d (take x.used src))) (sym e);
+      behind = ap lines_of (n ∙ ap (λ (x : Taken). after d (take x.used src)) (sym e));
       room = omega (arith, written_within d src out e f same);
       front = ap₂ take size there ∙ take-append_seam text (drop (0 + length text) out);
     }

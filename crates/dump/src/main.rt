@@ -37,7 +37,6 @@ impl Listener for Lines {
 
     fn hear(&mut self, bytes: &[u8], out: &mut [u8; READ_SIZE]) -> Heard {
         let taken = self.dump.take(bytes, out);
-        self.dump = taken.dump;
         Heard {
             used: taken.used,
             written: taken.written,

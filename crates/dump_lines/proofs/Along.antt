@@ -23,8 +23,9 @@ use Rattle.dump_lines.specs.Lines.{totals_of, next_dump, told, after, printed, c
 use Rattle.dump_lines.specs.declared.Dump.{Dump}
 use Rattle.dump_lines.specs.declared.Taken.{Taken}
 use Rattle.line.specs.machine.Feed.{event_of}
-use Rattle.dump_lines.specs.Code.{goes_on, Writes}
-use Rattle.dump_lines.proofs.Words.{unwritten, joined, reworded}
+use Rattle.dump_lines.specs.Code.{goes_on, WritesOn}
+use Rattle.dump_lines.specs.declared.dump_text.Writer.{Writer}
+use Rattle.dump_lines.proofs.Words.{unwritten_on, joined_on, reworded_on, same_room, writes}
 
 pub same_totals : {b f r b' f' r' : ℕ} → b ≡ b' → f ≡ f' → r ≡ r' → totals_of b f r ≡ totals_of b' f' r'
 same_totals p q r = rw (p, q, r)
@@ -88,60 +89,56 @@ count_none d src n room h = by (dec_le (length src) n)
     by (yes k) = rw (drop_of_length-le src k)
     by (no k) = let g : n < length src = omega arith in rw (drop-cons src n 0 g, lt-ltb room line_max (h g))
 
+-- what a loop has come to that began with `d₀` and a writer `w₀`, and took `used` bytes: the dump and the text are theirs, and of the bytes
+-- to be taken in all the others are still to come
+pub record Took (d₀ : Dump) (src : List ℕ) (w₀ : Writer) (d : Dump) (used : ℕ) (w : Writer) : Type 0 where
+  pub within : used ≤ length src
+  pub dumped : d ≡ after d₀ (take used src)
+  pub lines : WritesOn w₀ (printed d₀ (take used src)) w
+  pub counted : count d₀ src (length w₀.out.now) ≡ used + count d (drop used src) (length w₀.out.now - w.at)
+
+pub took_none : (d : Dump) (src : List ℕ) (w : Writer) → w.at ≡ 0 → Took d src w d 0 w
+took_none d src w e = record { within = omega arith; dumped = refl; lines = unwritten_on w (omega arith); counted = rw (e, sub-zero, zero-add) }
+
+module _ {d₀ d : Dump} {src : List ℕ} {w₀ w : Writer} {used : ℕ} (t : Took d₀ src w₀ d used w) where
+  pub took_more : {e : Dump} {next : Writer} → used < length src → w.at + line_max ≤ length w.out.now → e ≡ next_dump d (get_or src used 0) → WritesOn w (told d (get_or src used 0)) next → Took d₀ src w₀ e (used + 1) next
+  took_more {e} {next} h k n more =
+      let b : ℕ = get_or src used 0 in
+      let line : List ℕ = told d b in
+      let room : ℕ = length w₀.out.now - w.at in
+      let sized : length w.out.now ≡ length w₀.out.now = same_room t.lines in
+      let gap : room - length line ≡ length w₀.out.now - next.at = omega (arith, (writes more).place) in
+      let left : count (next_dump d b) (drop (suc used) src) (room - length line) ≡ count e (drop (used + 1) src) (length w₀.out.now - next.at) =
+      ap (λ (x : Dump). count x (drop (suc used) src) (room - length line)) (sym n) ∙ ap₂ (λ (i r : ℕ). count e (drop i src) r) (sym (add-one used)) gap in
+      record {
+        within = omega arith;
+        dumped = n ∙ ap (λ (x : Dump). next_dump x b) t.dumped ∙ sym (after_more d₀ src used h) ∙ ap (λ (i : ℕ). after d₀ (take i src)) (sym (add-one used));
+        lines =
+            reworded_on (ap (λ (x : Dump). printed d₀ (take used src) ++ told x b) t.dumped ∙ sym (printed_more d₀ src used h) ∙ ap (λ (i : ℕ). printed d₀ (take i src)) (sym (add-one used)))
+            (joined_on t.lines more);
+        counted = omega (arith, t.counted, count_more d₀ src used h d room (omega (arith, sized)), left);
+      }
+
+  -- where it stops, what was taken is all that is to be taken
+  module _ (begins : w₀.at ≡ 0) (stops : used < length src → length w.out.now < w.at + line_max) where
+    all : used ≡ count d₀ src (length w₀.out.now)
+    all = sym (t.counted ∙ omega (arith, count_none d src used (length w₀.out.now - w.at) (λ k. omega (arith, stops k, same_room t.lines))))
+
+    pub took_all : ◌≡◌ {A = Taken} (record { used = used; written = w.at }) (taken d₀ src (length w₀.out.now))
+    took_all =
+        let size : w.at ≡ length (printed d₀ (take used src)) = omega (arith, (writes t.lines).place) in
+        ap (λ (n : ℕ). record { used = used; written = n }) size ∙ ap (λ (n : ℕ). record { used = n; written = length (printed d₀ (take n src)) }) all
+
+    pub took_dump : d ≡ after d₀ (taking d₀ src (length w₀.out.now))
+    took_dump = t.dumped ∙ ap (λ (n : ℕ). after d₀ (take n src)) all
+
+    pub took_text : w.out.now ≡ put w₀.out.now 0 (printed d₀ (taking d₀ src (length w₀.out.now)))
+    took_text = (writes t.lines).content ∙ ap₂ (λ (at n : ℕ). put w₀.out.now at (printed d₀ (take n src))) begins all
+
 -- a list that keeps its length had room for what was put into it
 put-room : (l : List ℕ) (at : ℕ) (bs : List ℕ) → at ≤ length l → length (put l at bs) ≡ length l → at + length bs ≤ length l
 put-room l at bs h e =
     omega (arith, length-append (take at l ++ bs) (drop (at + length bs) l), length-append (take at l) bs, length-take-le at l h)
-
--- what a loop has come to that began with `d₀` and took `used` bytes: the dump and the text are theirs, and of the bytes to be taken in all
--- the others are still to come
-pub record Took (d₀ : Dump) (src out₀ : List ℕ) (d : Dump) (used written : ℕ) (out : List ℕ) : Type 0 where
-  pub within : used ≤ length src
-  pub sized : length out ≡ length out₀
-  pub dumped : d ≡ after d₀ (take used src)
-  pub lines : Writes out₀ 0 (printed d₀ (take used src)) written out
-  pub counted : count d₀ src (length out₀) ≡ used + count d (drop used src) (length out₀ - written)
-
-pub took_none : (d : Dump) (src out : List ℕ) → Took d src out d 0 0 out
-took_none d src out =
-    record { within = omega arith; sized = refl; dumped = refl; lines = unwritten out 0 (omega arith); counted = rw (sub-zero, zero-add) }
-
-abbrev took : Dump → ℕ → ℕ → Taken
-took d used written = record { dump = d; used = used; written = written }
-
-module _ {d₀ d : Dump} {src out₀ out : List ℕ} {used written : ℕ} (t : Took d₀ src out₀ d used written out) where
-  -- that the line had room shows in the length of the buffer, which no call changes
-  pub took_more : {e : Dump} {behind : ℕ} {last : List ℕ} → used < length src → written + line_max ≤ length out → e ≡ next_dump d (get_or src used 0) → behind ≡ written + length (told d (get_or src used 0)) → last ≡ put out written (told d (get_or src used 0)) → length last ≡ length out → Took d₀ src out₀ e (used + 1) behind last
-  took_more {e} {behind} {last} h k n p q same =
-      let b : ℕ = get_or src used 0 in
-      let line : List ℕ = told d b in
-      let room : ℕ = length out₀ - written in
-      let w : Writes out written line behind last = record { room = put-room out written line (omega arith) (sym (ap length q) ∙ same); place = p; content = q } in
-      let gap : room - length line ≡ length out₀ - behind = omega arith in
-      let left : count (next_dump d b) (drop (suc used) src) (room - length line) ≡ count e (drop (used + 1) src) (length out₀ - behind) =
-      ap (λ (x : Dump). count x (drop (suc used) src) (room - length line)) (sym n) ∙ ap₂ (λ (i r : ℕ). count e (drop i src) r) (sym (add-one used)) gap in
-      record {
-        within = omega arith;
-        sized = same ∙ t.sized;
-        dumped = n ∙ ap (λ (x : Dump). next_dump x b) t.dumped ∙ sym (after_more d₀ src used h) ∙ ap (λ (i : ℕ). after d₀ (take i src)) (sym (add-one used));
-        lines =
-            reworded (ap (λ (x : Dump). printed d₀ (take used src) ++ told x b) t.dumped ∙ sym (printed_more d₀ src used h) ∙ ap (λ (i : ℕ). printed d₀ (take i src)) (sym (add-one used)))
-            (joined t.lines w);
-        counted = omega (arith, t.counted, count_more d₀ src used h d room (omega (arith, t.sized)), left);
-      }
-
-  -- where it stops, what was taken is all that is to be taken
-  module _ (stops : used < length src → length out < written + line_max) where
-    all : used ≡ count d₀ src (length out₀)
-    all = sym (t.counted ∙ omega (arith, count_none d src used (length out₀ - written) (λ k. omega (arith, stops k, t.sized))))
-
-    pub took_all : took d used written ≡ taken d₀ src (length out₀)
-    took_all =
-        let size : written ≡ length (printed d₀ (take used src)) = omega (arith, t.lines.place) in
-        ap₂ (λ (x : Dump) (n : ℕ). took x used n) t.dumped size ∙ ap (λ (n : ℕ). took (after d₀ (take n src)) n (length (printed d₀ (take n src)))) all
-
-    pub took_text : out ≡ put out₀ 0 (printed d₀ (taking d₀ src (length out₀)))
-    took_text = t.lines.content ∙ ap (λ (n : ℕ). put out₀ 0 (printed d₀ (take n src))) all
 
 -- what a caller of `take` goes by: no more is taken than is there, something is taken where there are bytes and room, and what was written
 -- lies within the buffer

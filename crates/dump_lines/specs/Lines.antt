@@ -66,7 +66,6 @@ taking d src room = take (count d src room) src
 
 abbrev pub taken : Dump → List ℕ → ℕ → Taken
 taken d src room = record {
-  dump = after d (taking d src room);
   used = count d src room;
   written = length (printed d (taking d src room));
 }

@@ -1,7 +1,6 @@
 // The dump's text, a line at a time: document 01, 'Examples'. A line is words; behind each stands a
-// mark, a space or at the line's end a newline. Each writer here gives back the place behind what it
-// wrote.
-ghost use Rattle.std.specs.Prelude.{◌≡◌, true, [], ◌∷◌, ◌++◌, ◌+◌, ◌*◌, ◌≤◌, ◌<◌, length, take, drop};
+// mark, a space or at the line's end a newline.
+ghost use Rattle.std.specs.Prelude.{◌≡◌, true, [], ◌∷◌, ◌++◌, ◌+◌, ◌*◌, ◌≤◌, ◌<◌, leb, length, take, drop};
 ghost use Rattle.refusal.specs.Outcome.{ends, reply_of};
 ghost use Rattle.types.specs.Address.{address_length, head_room};
 ghost use Rattle.line.specs.Layout.{most_data};
@@ -9,10 +8,9 @@ ghost use Rattle.line.specs.machine.Room.{decoder_room};
 ghost use Rattle.line.specs.machine.Feed.{wire_in, event_of};
 ghost use Rattle.octets.specs.Figures.{decimal as decimalText, hex as hexText};
 ghost use Rattle.dump_lines.specs.Text.{line_max, address_text, data_text, frame_line, refusal_line, line_of};
-ghost use Rattle.dump_lines.specs.Code.{start};
 ghost use Rattle.dump_lines.specs.Text.{letter as typeLetter};
 ghost use Rattle.dump_lines.specs.Writing.{end_written};
-ghost use Rattle.dump_lines.specs.Code.{Writes};
+ghost use Rattle.dump_lines.specs.Code.{start, Writes, WritesOn};
 
 use line::{Completed, ROOM};
 use octets::{copy_into, decimal, hex};
@@ -33,76 +31,143 @@ const SPACE: u8 = b' ';
 
 const NEWLINE: u8 = b'\n';
 
-fn write_letter(letter: u8, mark: u8, out: &mut [u8], at: usize) -> usize
-    requires { at + 1 < length out.old }
-    ensures writes { Writes out.old at ((letter ∷ []) ++ (mark ∷ [])) result out.new }
-    ensures value { result ≡ at + 2 }
-{
-    out[at] = letter;
-    out[at + 1] = mark;
-    at + 2
+// A buffer that is lent, and the place behind what was written into it.
+#[derive(Drop)]
+pub(crate) struct Writer<'a> {
+    pub(crate) out: &'a mut [u8],
+    pub(crate) at: usize,
 }
 
-fn write_word(word: &[u8], mark: u8, out: &mut [u8], at: usize) -> usize
-    requires { at + length word.now < length out.old }
-    ensures writes { Writes out.old at (word.now ++ (mark ∷ [])) result out.new }
-    ensures value { result ≡ at + length word.now + 1 }
-{
-    copy_into(word, out, at);
-    let behind = at + word.len();
-    out[behind] = mark;
-    behind + 1
-}
-
-fn write_number(number: u64, mark: u8, out: &mut [u8], at: usize) -> usize
-    requires { at + 20 < length out.old }
-    ensures writes { Writes out.old at (decimalText number ++ (mark ∷ [])) result out.new }
-    ensures upper_bound { result ≤ at + 21 }
-{
-    write_word(decimal(number).as_slice(), mark, out, at)
-}
-
-fn write_hex(bytes: &[u8], mark: u8, out: &mut [u8], at: usize) -> usize
-    requires { at + 2 * length bytes.now < length out.old }
-    ensures writes { Writes out.old at (hexText bytes.now ++ (mark ∷ [])) result out.new }
-    ensures value { result ≡ at + 2 * length bytes.now + 1 }
-{
-    let mut i: usize = 0;
-    let mut place = at;
-    while i < bytes.len() {
-        let digits = hex(bytes[i]);
-        out[place] = digits[0];
-        out[place + 1] = digits[1];
-        i += 1;
-        place += 2;
+impl Writer<'_> {
+    pub(crate) fn has_room(&self) -> bool
+        requires { self.now.at ≤ length self.now.out.now }
+        ensures { result ≡ leb (self.now.at + line_max) (length self.now.out.now) }
+    {
+        LINE_MAX <= self.out.len() - self.at
     }
-    out[place] = mark;
-    place + 1
-}
 
-// As our writer writes it, so that the bits that say nothing are zero.
-fn write_address(bytes: &[u8], long: bool, mark: u8, out: &mut [u8], at: usize) -> usize
-    requires { (length bytes.now ≡ decoder_room) × (at + 2 * address_length true < length out.old) }
-    ensures writes { Writes out.old at (address_text long (take (address_length long) bytes.now) ++ (mark ∷ [])) result out.new }
-    ensures upper_bound { result ≤ at + 2 * address_length true + 1 }
-{
-    let Ok((address, used)) = Address::decode(bytes, long) else {
-        return at;
-    };
-    let mut written = [0u8; LONG_ADDRESS_LENGTH];
-    let _ = address.encode(&mut written);
-    write_hex(&written[0..used], mark, out, at)
-}
-
-fn write_data(bytes: &[u8], n: u8, mark: u8, out: &mut [u8], at: usize) -> usize
-    requires { (length bytes.now ≡ decoder_room) × (at + 2 * most_data < length out.old) }
-    ensures { Writes out.old at (data_text (take n (drop head_room bytes.now)) ++ (mark ∷ [])) result out.new }
-{
-    if n == 0 {
-        return write_letter(b'-', mark, out, at);
+    // The line of what a byte ended, if that has one.
+    pub(crate) fn line(
+        &mut self,
+        place: u64,
+        ended: Result<Option<Completed>, Refusal>,
+        bytes: &[u8; ROOM],
+    )
+        requires { self.old.at + line_max ≤ length self.old.out.now }
+        ensures { WritesOn self.old (line_of place (event_of ended bytes.now)) self.new }
+    {
+        match ended {
+            Ok(None) => {}
+            Ok(Some(completed)) => self.frame(place, completed, bytes),
+            Err(refusal) => self.refusal(place, refusal),
+        }
     }
-    let to = HEAD_ROOM + n as usize;
-    write_hex(&bytes[HEAD_ROOM..to], mark, out, at)
+
+    fn letter(&mut self, letter: u8, mark: u8)
+        requires { self.old.at + 1 < length self.old.out.now }
+        ensures { WritesOn self.old ((letter ∷ []) ++ (mark ∷ [])) self.new }
+    {
+        self.out[self.at] = letter;
+        self.out[self.at + 1] = mark;
+        self.at += 2;
+    }
+
+    fn word(&mut self, word: &[u8], mark: u8)
+        requires { self.old.at + length word.now < length self.old.out.now }
+        ensures { WritesOn self.old (word.now ++ (mark ∷ [])) self.new }
+    {
+        copy_into(word, self.out, self.at);
+        self.at += word.len();
+        self.out[self.at] = mark;
+        self.at += 1;
+    }
+
+    fn number(&mut self, number: u64, mark: u8)
+        requires { self.old.at + 20 < length self.old.out.now }
+        ensures writes { WritesOn self.old (decimalText number ++ (mark ∷ [])) self.new }
+        ensures upper_bound { self.new.at ≤ self.old.at + 21 }
+    {
+        self.word(decimal(number).as_slice(), mark);
+    }
+
+    fn hex(&mut self, bytes: &[u8], mark: u8)
+        requires { self.old.at + 2 * length bytes.now < length self.old.out.now }
+        ensures { WritesOn self.old (hexText bytes.now ++ (mark ∷ [])) self.new }
+    {
+        for byte in bytes {
+            let digits = hex(*byte);
+            self.out[self.at] = digits[0];
+            self.out[self.at + 1] = digits[1];
+            self.at += 2;
+        }
+        self.out[self.at] = mark;
+        self.at += 1;
+    }
+
+    // As our writer writes it, so that the bits that say nothing are zero.
+    fn address(&mut self, bytes: &[u8; ROOM], long: bool, mark: u8)
+        requires { self.old.at + 2 * address_length true < length self.old.out.now }
+        ensures writes { WritesOn self.old (address_text long (take (address_length long) bytes.now) ++ (mark ∷ [])) self.new }
+        ensures upper_bound { self.new.at ≤ self.old.at + 2 * address_length true + 1 }
+    {
+        if let Ok((address, used)) = Address::decode(bytes, long) {
+            let mut written = [0u8; LONG_ADDRESS_LENGTH];
+            let _ = address.encode(&mut written);
+            self.hex(&written[..used], mark);
+        }
+    }
+
+    fn data(&mut self, bytes: &[u8; ROOM], n: u8, mark: u8)
+        requires { self.old.at + 2 * most_data < length self.old.out.now }
+        ensures { WritesOn self.old (data_text (take n (drop head_room bytes.now)) ++ (mark ∷ [])) self.new }
+    {
+        if n == 0 {
+            return self.letter(b'-', mark);
+        }
+        self.hex(&bytes[HEAD_ROOM..HEAD_ROOM + n as usize], mark);
+    }
+
+    // What the line of a piece begins with: its letter and the place.
+    fn start(&mut self, letter: u8, place: u64)
+        requires { self.old.at + 22 < length self.old.out.now }
+        ensures writes { WritesOn self.old (start letter place) self.new }
+        ensures upper_bound { self.new.at ≤ self.old.at + 23 }
+    {
+        self.letter(letter, SPACE);
+        self.number(place, SPACE);
+    }
+
+    // The frame that the bytes hold at its check byte.
+    fn frame(&mut self, place: u64, completed: Completed, bytes: &[u8; ROOM])
+        requires { self.old.at + line_max ≤ length self.old.out.now }
+        ensures { WritesOn self.old (frame_line place (wire_in completed bytes.now)) self.new }
+    {
+        let head = completed.head;
+        self.start(b'F', place);
+        self.letter(letter(head.frame_type), SPACE);
+        self.address(bytes, head.is_long, SPACE);
+        self.number(completed.command as u64, SPACE);
+        self.data(bytes, completed.length, NEWLINE);
+    }
+
+    // A line's bytes are refused with 4 or 5 alone; any other refusal has no line.
+    fn refusal(&mut self, place: u64, refusal: Refusal)
+        requires { self.old.at + line_max ≤ length self.old.out.now }
+        ensures { WritesOn self.old (refusal_line place refusal) self.new }
+    {
+        match refusal {
+            Refusal::InvalidDelimiter(byte) => {
+                self.start(b'D', place);
+                self.hex(&[byte], NEWLINE);
+            }
+            Refusal::ChecksumMismatch { expected, actual } => {
+                self.start(b'C', place);
+                self.hex(&[expected], SPACE);
+                self.hex(&[actual], NEWLINE);
+            }
+            _ => {}
+        }
+    }
 }
 
 fn letter(frame_type: FrameType) -> u8
@@ -112,68 +177,6 @@ fn letter(frame_type: FrameType) -> u8
         FrameType::Request => b'Q',
         FrameType::Response => b'R',
         FrameType::Burst => b'B',
-    }
-}
-
-// What the line of a piece begins with: its letter and the place.
-fn write_start(letter: u8, place: u64, out: &mut [u8], at: usize) -> usize
-    requires { at + 22 < length out.old }
-    ensures writes { Writes out.old at (start letter place) result out.new }
-    ensures upper_bound { result ≤ at + 23 }
-{
-    let after_letter = write_letter(letter, SPACE, out, at);
-    write_number(place, SPACE, out, after_letter)
-}
-
-// The frame that the bytes hold at its check byte.
-fn write_frame(place: u64, completed: Completed, bytes: &[u8], out: &mut [u8], at: usize) -> usize
-    requires { (length bytes.now ≡ decoder_room) × (at + line_max ≤ length out.old) }
-    ensures { Writes out.old at (frame_line place (wire_in completed bytes.now)) result out.new }
-{
-    let Completed {
-        head,
-        command,
-        length: n,
-    } = completed;
-    let after_start = write_start(b'F', place, out, at);
-    let after_type = write_letter(letter(head.frame_type), SPACE, out, after_start);
-    let after_address = write_address(bytes, head.is_long, SPACE, out, after_type);
-    let after_command = write_number(command as u64, SPACE, out, after_address);
-    write_data(bytes, n, NEWLINE, out, after_command)
-}
-
-// A line's bytes are refused with 4 or 5 alone; any other refusal has no line.
-fn write_refusal(place: u64, refusal: Refusal, out: &mut [u8], at: usize) -> usize
-    requires { at + line_max ≤ length out.old }
-    ensures { Writes out.old at (refusal_line place refusal) result out.new }
-{
-    if let Refusal::InvalidDelimiter(byte) = refusal {
-        let after_start = write_start(b'D', place, out, at);
-        return write_hex(&[byte], NEWLINE, out, after_start);
-    }
-    if let Refusal::ChecksumMismatch { expected, actual } = refusal {
-        let after_start = write_start(b'C', place, out, at);
-        let after_expected = write_hex(&[expected], SPACE, out, after_start);
-        return write_hex(&[actual], NEWLINE, out, after_expected);
-    }
-    at
-}
-
-// The line of what a byte ended, if that has one, from place `at` on; gives back the place behind it.
-pub(crate) fn write_line(
-    place: u64,
-    ended: Result<Option<Completed>, Refusal>,
-    bytes: &[u8; ROOM],
-    out: &mut [u8],
-    at: usize,
-) -> usize
-    requires { at + line_max ≤ length out.old }
-    ensures { Writes out.old at (line_of place (event_of ended bytes.now)) result out.new }
-{
-    match ended {
-        Ok(None) => at,
-        Ok(Some(completed)) => write_frame(place, completed, bytes, out, at),
-        Err(refusal) => write_refusal(place, refusal, out, at),
     }
 }
 
@@ -189,8 +192,10 @@ pub(crate) fn write_end(
     if out.len() < LINE_MAX {
         return Err(Refusal::BufferTooSmall);
     }
-    let after_end = write_word(b"end", SPACE, out, 0);
-    let after_bytes = write_number(bytes, SPACE, out, after_end);
-    let after_frames = write_number(frames, SPACE, out, after_bytes);
-    Ok(write_number(refusals, NEWLINE, out, after_frames))
+    let mut writer = Writer { out, at: 0 };
+    writer.word(b"end", SPACE);
+    writer.number(bytes, SPACE);
+    writer.number(frames, SPACE);
+    writer.number(refusals, NEWLINE);
+    Ok(writer.at)
 }

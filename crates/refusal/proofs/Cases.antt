@@ -3,10 +3,9 @@
 use Prim.Native.Nat.{ℕ, ◌≤◌}
 use native.Mathlib.Omega.{arith}
 use mathlib.Core.Logic.{◌≢◌}
+use mathlib.Core.Path.{◌≡◌, refl}
 use mathlib.Core.List.{List, [], ◌∷◌}
 use lib.ListN.{length}
-use types.Run.{OneOf, miss}
-use denote.Enum.Declared.{tag_of}
 use Rattle.refusal.specs.declared.Refusal.{Refusal}
 use Rattle.refusal.specs.declared.Refusal.TheVariants.{
   DataTooLong,
@@ -20,21 +19,13 @@ use Rattle.refusal.specs.declared.Refusal.TheVariants.{
   CommError,
   ResponseCode,
 }
-use Rattle.refusal.specs.contracts.Refusal.{the_type}
 use Rattle.refusal.specs.Table.{number_of, values_of}
 
--- all cases but one, by the place at which each is declared
-abbrev pub not_delimiter : List ℕ
-not_delimiter = 0 ∷ 1 ∷ 2 ∷ 4 ∷ 5 ∷ 6 ∷ 7 ∷ 8 ∷ 9 ∷ []
-
-abbrev pub not_check : List ℕ
-not_check = 0 ∷ 1 ∷ 2 ∷ 3 ∷ 5 ∷ 6 ∷ 7 ∷ 8 ∷ 9 ∷ []
-
-pub not_four : (r : Refusal) → OneOf not_delimiter (tag_of the_type r) → number_of r ≢ 4
+pub not_four : (r : Refusal) → ((b : ℕ) → r ≡ InvalidDelimiter b → ⊥) → number_of r ≢ 4
 not_four DataTooLong h e = omega arith
 not_four BufferTooSmall h e = omega arith
 not_four BufferTooShort h e = omega arith
-not_four (InvalidDelimiter b) h e = absurd (miss not_delimiter 3 tt h)
+not_four (InvalidDelimiter b) h e = absurd (h b refl)
 not_four (ChecksumMismatch x y) h e = omega arith
 not_four WrongFrame h e = omega arith
 not_four (BadCharacter p) h e = omega arith
@@ -42,12 +33,12 @@ not_four BadState h e = omega arith
 not_four (CommError b) h e = omega arith
 not_four (ResponseCode c) h e = omega arith
 
-pub not_five : (r : Refusal) → OneOf not_check (tag_of the_type r) → number_of r ≢ 5
+pub not_five : (r : Refusal) → ((x y : ℕ) → r ≡ ChecksumMismatch x y → ⊥) → number_of r ≢ 5
 not_five DataTooLong h e = omega arith
 not_five BufferTooSmall h e = omega arith
 not_five BufferTooShort h e = omega arith
 not_five (InvalidDelimiter b) h e = omega arith
-not_five (ChecksumMismatch x y) h e = absurd (miss not_check 4 tt h)
+not_five (ChecksumMismatch x y) h e = absurd (h x y refl)
 not_five WrongFrame h e = omega arith
 not_five (BadCharacter p) h e = omega arith
 not_five BadState h e = omega arith

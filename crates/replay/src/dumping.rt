@@ -26,7 +26,6 @@ pub(crate) fn dump_bytes(dump: &mut Dump, mut given: Given, out: &mut Output) ->
     let bytes = given.rest();
     let mut lines = [0u8; LINES_MAX];
     let taken = dump.take(bytes, &mut lines);
-    *dump = taken.dump;
     if taken.used < bytes.len() {
         return Err(Failed::NoRoom);
     }

@@ -1,5 +1,5 @@
 -- The address is read from as many bytes as it has, and the array lent to its writer comes back with it at the front.
-use Prim.Native.Nat.{ℕ, ◌-◌}
+use Prim.Native.Nat.{ℕ}
 use native.Mathlib.Omega.{arith}
 use mathlib.Core.Path.{◌≡◌, ap, sym, ◌∙◌}
 use mathlib.Core.Bool.{Bool, true, cond}
@@ -15,8 +15,8 @@ use Rattle.types.specs.Address.{address_length, is_long, read_address, address_b
 use Rattle.types.proofs.Addresses.{address_length_le, address_fits, length-address, read_taken, long_read}
 use Rattle.line.specs.machine.Room.{decoder_room}
 use Rattle.octets.specs.Figures.{hex}
-use Rattle.dump_lines.proofs.Words.{reworded}
-use Rattle.dump_lines.proofs.dump_text.write_address.Goals as goal
+use Rattle.dump_lines.proofs.Words.{reworded_on}
+use Rattle.dump_lines.proofs.dump_text.Writer.address.Goals as goal
 
 written_front : (a : Address) {r : Reply} {after : List ℕ} → ends r after ≡ address_written a (replicate (address_length true) 0) → take (address_length (is_long a)) after ≡ address_bytes a
 written_front a {r} {after} e =
@@ -46,14 +46,15 @@ module _ (long : Bool) (bs : List ℕ) (size : length bs ≡ decoder_room) (r : 
   was_used : (a : Address) (used : ℕ) → r ≡ Ok (a, used) → used ≡ address_length long
   was_used a used f = let g : address_read a used ≡ address_read (read_address long bs) (address_length long) = sym (ap read_of f) ∙ enough in cc
 
-pub returns-clause-writes : goal.returns-clause-writes
-returns-clause-writes c =
+pub returns-in-Ok-clause-writes : goal.returns-in-Ok-clause-writes
+returns-in-Ok-clause-writes c =
     let a = c.args in
     let d = c.decode in
-    let address : c.in-Ok.address ≡ read_address a.long (take (address_length a.long) a.bytes.now) = was_read a.long a.bytes.now (omega arith) d.result d.ensures c.in-Ok.address c.in-Ok.used c.in-Ok.is in
-    let used : c.in-Ok.used ≡ address_length a.long = was_used a.long a.bytes.now (omega arith) d.result d.ensures c.in-Ok.address c.in-Ok.used c.in-Ok.is in
-    let count : c.in-Ok.used - 0 ≡ address_length (is_long c.in-Ok.address) =
+    let k = c.in-Ok in
+    let address : k.address ≡ read_address a.long (take (address_length a.long) a.bytes.now) = was_read a.long a.bytes.now (omega arith) d.result d.ensures k.address k.used k.is in
+    let used : k.used ≡ address_length a.long = was_used a.long a.bytes.now (omega arith) d.result d.ensures k.address k.used k.is in
+    let count : k.used ≡ address_length (is_long k.address) =
     omega (arith, ap (λ (x : Address). address_length (is_long x)) address, ap address_length (long_read a.long (take (address_length a.long) a.bytes.now))) in
-    let last = c.encode.new.buf in
-    let text : hex (take (c.in-Ok.used - 0) last) ≡ hex (address_bytes (read_address a.long (take (address_length a.long) a.bytes.now))) =
-    ap hex (ap (λ (k : ℕ). take k last) count ∙ written_front c.in-Ok.address c.encode.ensures ∙ ap address_bytes address) in reworded (ap (λ (xs : List ℕ). xs ++ (a.mark ∷ [])) text) c.write_hex.ensures.writes
+    let text : hex (take k.used c.encode.new.buf) ≡ hex (address_bytes (read_address a.long (take (address_length a.long) a.bytes.now))) =
+    ap hex (ap (λ (n : ℕ). take n c.encode.new.buf) count ∙ written_front k.address c.encode.ensures ∙ ap address_bytes address) in
+    reworded_on (ap (λ (xs : List ℕ). xs ++ (a.mark ∷ [])) text) c.hex.ensures
