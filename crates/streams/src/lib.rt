@@ -143,7 +143,7 @@ pub fn goes_on(
     ensures { (n : ℕ) → got.now ≡ Ok (Some n) → result ≡ ltb 0 n && eqb handover.took handover.asked }
 {
     match got {
-        Ok(Some(n)) => (*n > 0) & handover.is_whole(),
+        Ok(Some(n)) => *n > 0 && handover.is_whole(),
         Ok(None) => true,
         Err(error) => {
             let _ = eprintln!(rt; "{program}: cannot read standard input: {error}");
@@ -188,7 +188,7 @@ fn pass_all<L: Listener>(
 {
     let mut used: usize = 0;
     let mut handover = Handover::NOTHING;
-    while (used < bytes.len()) & handover.is_whole() {
+    while used < bytes.len() && handover.is_whole() {
         let passed = pass_some(rt, program, listener, &bytes[used..], out);
         used += passed.used;
         handover.asked += passed.handover.asked;
