@@ -56,6 +56,7 @@ impl Totals {
     }
 }
 
+// A test of its own: an arm of the nested pattern that returns would leave no fact of the others to the proof.
 fn goes_on(ended: &Result<Option<Completed>, Refusal>) -> bool
     ensures { result ≡ goes_on ended.now }
 {

@@ -111,7 +111,7 @@ fn ask_by_tag(rt: &impl Print, tag: [u8; 8]) -> io::Result<()> {
     tell_written(rt, "tag", written, &buffer)
 }
 
-// Reads until there is no room left, or no more to read.
+// Reads until there is no room left, or no more to read. std's `read_to_end` wants a Vec, and nothing here allocates.
 fn read(from: &mut impl Read, line: &mut [u8]) -> usize
     ensures { result ≤ length line.new }
 {
