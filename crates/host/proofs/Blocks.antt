@@ -1,5 +1,5 @@
 -- Laws on blocks: what each call comes to, case by case, and what a block holds.
-use Prim.Native.Nat.{ℕ, ◌+◌, ◌≤◌, ◌<◌}
+use Prim.Native.Nat.{ℕ, ◌≤◌, ◌<◌}
 use native.Mathlib.Omega.{arith}
 use mathlib.Core.Path.{◌≡◌, refl, sym, ap, ap₂, ◌∙◌}
 use mathlib.Core.Logic.{◌≢◌}
@@ -82,10 +82,6 @@ module _ (block : List ℕ) where
   pub clear_whole : length block ≡ block_size → cleared_block block ≡ clears 0 (replicate block_size 0)
   unfolding cleared_block
   clear_whole h = rw (eq-eqb (length block) block_size h)
-
-  pub clear_refused : length block ≢ block_size → cleared_block block ≡ clears (1000 + 8) block
-  unfolding cleared_block
-  clear_refused h = rw (ne_eqb (length block) block_size h)
 
 -- a byte that was stepped into the bytes behind the header, in place
 pub stepped_block : (l : List ℕ) (b : ℕ) {s : State} {m : Moved} {part : List ℕ} → length l ≡ block_size → s ≡ state_in l → m ≡ moved_at s b → part ≡ stored_at s (mid_of header_size decoder_room l) b

@@ -118,6 +118,7 @@ fn behind_address(phase: u8, head: Head, expected: u8, received: u8, command: u8
     with_head(phase, head, address, expected, received, command)
 }
 
+#[tactic(auto, unfolding(crate::specs::Header::header_of))]
 fn fields_of(state: State) -> Fields
     ensures { (result.counts < header_end) × (summed result ≡ header_of state) }
 {
@@ -171,6 +172,7 @@ fn head_said(number: u64, long: u64, check: u8) -> Head
 
 // The state that a header speaks of, if it speaks of one: `header_of` tells whether it does, and
 // whether every other bit of it is as it must be.
+#[tactic(auto, unfolding(crate::specs::Header::state_at))]
 pub(crate) fn state_at(header: u64) -> State
     ensures { result ≡ state_at header }
 {

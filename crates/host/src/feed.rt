@@ -22,6 +22,7 @@ fn told(answer: Result<u32, Refusal>) -> u32
     }
 }
 
+#[tactic(auto, unfolding(crate::specs::Block::cleared_block))]
 fn clear(block: &mut [u8]) -> Result<u32, Refusal>
     ensures { clears (told_number result) block.new ≡ cleared_block block.old }
 {

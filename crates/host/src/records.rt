@@ -79,6 +79,7 @@ fn write_refusal(refusal: Refusal, room: &mut Room) -> u32
 }
 
 // The record of what a byte ended, at the front of the room, and its length: silence has none.
+#[tactic(auto, unfolding(crate::specs::Record::record_of))]
 pub(crate) fn write_record(
     ended: Result<Option<Completed>, Refusal>,
     block: &Block,

@@ -50,20 +50,10 @@ module _ (kind : Kind) (cs payload : List ℕ) (at : ℕ) where
   unfolding pushed_in
   pushed_late h = rw (lt-ltb _ _ h)
 
-  module _ (timely : at + size_in kind (length cs) ≤ latest_of kind) where
-    pub pushed_small : length payload < at + size_in kind (length cs) → pushed_in kind cs payload at ≡ stays 2 [] payload at
-    unfolding pushed_in
-    pushed_small h = rw (le-ltb _ _ timely, lt-ltb _ _ h)
-
-    module _ (roomy : at + size_in kind (length cs) ≤ length payload) where
-      pub pushed_bad : bad_of kind cs < characters_in kind (length cs) → pushed_in kind cs payload at ≡ stays 7 (bad_of kind cs ∷ []) payload at
-      unfolding pushed_in
-      pushed_bad h = rw (le-ltb _ _ timely, le-ltb _ _ roomy, lt-ltb _ _ h)
-
-      pub pushed_fits : characters_in kind (length cs) ≤ bad_of kind cs
-          → pushed_in kind cs payload at ≡ leads (ends (done (size_in kind (length cs) ∷ [])) (put payload at (bytes_in kind cs))) (at + size_in kind (length cs))
-      unfolding pushed_in
-      pushed_fits h = rw (le-ltb _ _ timely, le-ltb _ _ roomy, le-ltb _ _ h)
+  pub pushed_fits : at + size_in kind (length cs) ≤ latest_of kind → at + size_in kind (length cs) ≤ length payload → characters_in kind (length cs) ≤ bad_of kind cs
+      → pushed_in kind cs payload at ≡ leads (ends (done (size_in kind (length cs) ∷ [])) (put payload at (bytes_in kind cs))) (at + size_in kind (length cs))
+  unfolding pushed_in
+  pushed_fits timely roomy good = rw (le-ltb _ _ timely, le-ltb _ _ roomy, le-ltb _ _ good)
 
 -- document 02, 1/12: eight groups count, so that behind two status bytes, the extended one and eight groups of eight bytes there is no ninth
 pub ninth_group : (group payload : List ℕ) → let end : ℕ = status_size + extended_size + most_variables * group_size in length group ≡ group_size → pushed_in Group group payload end ≡ stays 1 [] payload end

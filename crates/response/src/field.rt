@@ -165,6 +165,7 @@ impl Field {
 // The slice-and-position function that the writer's method stands on. It gives the place behind the field; a
 // refused field writes nothing: 1 where it would end too late, 2 where there is no room, 7 for a character
 // without a code.
+#[tactic(auto, unfolding(crate::specs::Field::pushed_in))]
 pub fn put_field(payload: &mut [u8], at: usize, field: Field) -> Result<usize, Refusal>
     ensures placed { placing at result payload.new ≡ pushed_field field payload.old at }
     ensures onward { IfOk result (λ behind. (at ≤ behind) × (behind ≤ most_data)) }

@@ -1,4 +1,4 @@
--- Each refusal by its test, and the rest by what was written.
+-- Where nothing is refused, by what was written.
 use Prim.Native.Nat.{ℕ, ◌+◌, ◌-◌, ◌≤◌}
 use native.Mathlib.Omega.{arith}
 use mathlib.Core.Path.{◌≡◌, sym, ap, ◌∙◌}
@@ -9,36 +9,14 @@ use Rattle.octets.specs.Put.{put, put_if_fits}
 use mathlib.Core.Logic.{◌⊎◌, inl, inr}
 use Rattle.response.specs.declared.field.Kind.{Kind}
 use Rattle.response.specs.declared.field.Kind.TheVariants.{Bytes, Group, Text}
-use Rattle.response.specs.Field.{characters_in, latest_of, pushed_in, leads, contents, bytes_in, size_in, bad_of, stays, field_characters}
+use Rattle.response.specs.Field.{characters_in, latest_of, pushed_in, leads, contents, bytes_in, size_in, bad_of, field_characters}
 use Rattle.packed_string.specs.declared.text_group.Mode.{Mode}
 use Rattle.packed_string.specs.Modes.{packed_in}
 use Rattle.packed_string.proofs.Texts.{lent_text}
 use borrow.Rule.Slice.PartMut.{mid_of, put_mid}
 use Rattle.octets.proofs.Put.{put_fitting}
-use Rattle.response.proofs.Fields.{length-bytes, latest_small, some_below, none_below, pushed_late, pushed_small, pushed_bad, pushed_fits}
+use Rattle.response.proofs.Fields.{length-bytes, latest_small, none_below, pushed_fits}
 use Rattle.response.proofs.field.put_field.Goals as goal
-
-pub returns-then-latest-end-clause-placed : goal.returns-then-latest-end-clause-placed
-returns-then-latest-end-clause-placed c =
-    let a = c.args in
-    let f = a.field in
-    sym (pushed_late f.kind (contents f) a.payload.now a.at (omega arith))
-
-pub returns-then-payload-end-clause-placed : goal.returns-then-payload-end-clause-placed
-returns-then-payload-end-clause-placed c =
-    let a = c.args in
-    let f = a.field in
-    let latest = latest_small f.kind in
-    sym (pushed_small f.kind (contents f) a.payload.now a.at (omega arith) (omega arith))
-
-pub returns-in-Some-clause-placed : goal.returns-in-Some-clause-placed
-returns-in-Some-clause-placed c =
-    let a = c.args in
-    let f = a.field in
-    let latest = latest_small f.kind in
-    let bad = some_below (bad_of f.kind (contents f)) (field_characters f) c.in-Some.ensures.value in
-    ap (λ (n : ℕ). stays 7 (n ∷ []) a.payload.now a.at) bad.0
-    ∙ sym (pushed_bad f.kind (contents f) a.payload.now a.at (omega arith) (omega arith) bad.1)
 
 -- done: the place given is the one behind what was put, and the count what lies before it
 placed : (kind : Kind) (cs l after : List ℕ) (at end : ℕ) → end ≡ at + size_in kind (length cs) → end ≤ latest_of kind → end ≤ length l → characters_in kind (length cs) ≤ bad_of kind cs → after ≡ put l at (bytes_in kind cs)
