@@ -13,7 +13,7 @@ use refusal::Refusal;
 use response::{Field, IDENTITY_SIZE, ResponseFields, write_response};
 use types::FrameType;
 
-#[derive(Clone, Copy)]
+#[derive(Clone, Copy, Debug, PartialEq, Eq)]
 pub struct DeviceIdentity {
     pub expansion_code: u8,
     pub expanded_device_type: u16,

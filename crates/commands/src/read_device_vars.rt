@@ -24,7 +24,7 @@ use types::consts::commands::READ_DEVICE_VARS_WITH_STATUS;
 
 // A unit is its raw byte. The value is that of `bits`, which are the line's own: a value that is the NaN
 // has lost which of its patterns the line sent.
-#[derive(Clone, Copy)]
+#[derive(Clone, Copy, Debug, PartialEq)]
 pub struct DeviceVariable {
     pub device_var_code: u8,
     pub classification: u8,
@@ -35,14 +35,14 @@ pub struct DeviceVariable {
 }
 
 // The codes are the first `count`; zeros follow them.
-#[derive(Clone, Copy)]
+#[derive(Clone, Copy, Debug, PartialEq, Eq)]
 pub struct ReadDeviceVarsRequest {
     pub count: u8,
     pub codes: [u8; MAX_DEVICE_VARS],
 }
 
 // The variables are the first `count`; all zeros follow them.
-#[derive(Clone, Copy)]
+#[derive(Clone, Copy, Debug, PartialEq)]
 pub struct ReadDeviceVarsResponse {
     pub count: u8,
     pub variables: [DeviceVariable; MAX_DEVICE_VARS],

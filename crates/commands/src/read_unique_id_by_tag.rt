@@ -20,7 +20,7 @@ use response::TAG_LENGTH;
 use types::FrameType;
 use types::consts::commands::READ_UNIQUE_ID_BY_TAG;
 
-#[derive(Clone, Copy)]
+#[derive(Clone, Copy, Debug, PartialEq, Eq)]
 pub struct ReadUniqueIdByTagRequest {
     pub tag: [u8; TAG_LENGTH],
 }

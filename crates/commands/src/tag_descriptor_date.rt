@@ -31,7 +31,7 @@ const YEAR_AT: usize = MONTH_AT + 1;
 
 pub(crate) const LAYOUT_SIZE: usize = YEAR_AT + 1;
 
-#[derive(Clone, Copy)]
+#[derive(Clone, Copy, Debug, PartialEq, Eq)]
 pub struct TagDescriptorDate {
     pub tag: [u8; TAG_LENGTH],
     pub descriptor: [u8; DESCRIPTOR_LENGTH],
