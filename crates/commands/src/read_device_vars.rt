@@ -165,6 +165,7 @@ pub fn read_frame(
 }
 
 // The same of a frame that a decoder found.
+#[tactic(auto, unfolding(framing::specs::Payload::typed_of))]
 pub fn read_response(mode: Mode, frame: Frame) -> Result<ReadDeviceVarsResponse, Refusal>
     ensures { variables_of result ≡ typed_of (command9 mode) frame }
 {
@@ -200,6 +201,7 @@ pub fn read_request_frame(
 }
 
 // The same of a frame that a decoder found.
+#[tactic(auto, unfolding(framing::specs::Requests::asked_of))]
 pub fn read_request(frame: Frame) -> Result<ReadDeviceVarsRequest, Refusal>
     ensures { codes_of result ≡ asked_of request9 frame }
 {

@@ -62,6 +62,7 @@ pub fn read_frame(
 }
 
 // The same of a frame that a decoder found.
+#[tactic(auto, unfolding(framing::specs::Payload::typed_of))]
 pub fn read_response(frame: Frame) -> Result<DeviceIdentity, Refusal>
     ensures { identified_of result ≡ typed_of command11 frame }
 {
@@ -94,6 +95,7 @@ pub fn read_request_frame(
 }
 
 // The same of a frame that a decoder found.
+#[tactic(auto, unfolding(framing::specs::Requests::asked_of))]
 pub fn read_request(mode: Mode, frame: Frame) -> Result<ReadUniqueIdByTagRequest, Refusal>
     ensures { tagged_of result ≡ asked_of (request11 mode) frame }
 {

@@ -53,6 +53,7 @@ pub fn read_frame(
 }
 
 // The same of a frame that a decoder found.
+#[tactic(auto, unfolding(framing::specs::Payload::typed_of))]
 pub fn read_response(mode: Mode, frame: Frame) -> Result<TagDescriptorDate, Refusal>
     ensures { fields_of result ≡ typed_of (command18 mode) frame }
 {
@@ -73,6 +74,7 @@ pub fn read_request_frame(
 }
 
 // The same of a frame that a decoder found.
+#[tactic(auto, unfolding(framing::specs::Requests::asked_of))]
 pub fn read_request(mode: Mode, frame: Frame) -> Result<TagDescriptorDate, Refusal>
     ensures { fields_of result ≡ asked_of (command18 mode) frame }
 {
