@@ -81,6 +81,7 @@ impl DeviceIdentity {
 }
 
 // The identity that a frame carries for a command whose response it is, or why it carries none.
+#[tactic(auto, unfolding(framing::specs::Payload::typed_in))]
 pub(crate) fn read_identity(
     wanted: u8,
     frame_type: FrameType,

@@ -152,6 +152,7 @@ pub fn decode_data(mode: Mode, data: &[u8]) -> Result<ReadDeviceVarsResponse, Re
 }
 
 // The response that a frame carries, or why it carries none.
+#[tactic(auto, unfolding(framing::specs::Payload::typed_in))]
 pub fn read_frame(
     mode: Mode,
     frame_type: FrameType,
@@ -189,6 +190,7 @@ fn read_codes(data: &[u8]) -> Result<ReadDeviceVarsRequest, Refusal>
 }
 
 // The codes of the variables that a request asks for, as a device reads them.
+#[tactic(auto, unfolding(framing::specs::Requests::asked_in))]
 pub fn read_request_frame(
     frame_type: FrameType,
     command: u8,

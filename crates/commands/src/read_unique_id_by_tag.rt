@@ -82,6 +82,7 @@ fn read_tag(mode: Mode, data: &[u8]) -> Result<ReadUniqueIdByTagRequest, Refusal
 }
 
 // The tag that a request asks for, as a device reads it.
+#[tactic(auto, unfolding(framing::specs::Requests::asked_in))]
 pub fn read_request_frame(
     mode: Mode,
     frame_type: FrameType,

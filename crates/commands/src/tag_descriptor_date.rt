@@ -84,6 +84,7 @@ pub(crate) fn read_layout(mode: Mode, data: &[u8]) -> Result<TagDescriptorDate, 
 }
 
 // The fields that a frame carries for a command that has this layout, or why it carries none.
+#[tactic(auto, unfolding(framing::specs::Payload::typed_in))]
 pub(crate) fn read_texts(
     wanted: u8,
     mode: Mode,

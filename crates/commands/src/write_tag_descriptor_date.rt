@@ -61,6 +61,7 @@ pub fn read_response(mode: Mode, frame: Frame) -> Result<TagDescriptorDate, Refu
 }
 
 // The fields that a request has, as a device reads them.
+#[tactic(auto, unfolding(framing::specs::Requests::asked_in))]
 pub fn read_request_frame(
     mode: Mode,
     frame_type: FrameType,
