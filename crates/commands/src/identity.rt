@@ -13,7 +13,7 @@ use refusal::Refusal;
 use response::{Field, IDENTITY_SIZE, ResponseFields, write_response};
 use types::FrameType;
 
-#[derive(Clone, Copy)]
+#[derive(Clone, Copy, Debug, PartialEq, Eq)]
 pub struct DeviceIdentity {
     pub expansion_code: u8,
     pub expanded_device_type: u16,
@@ -81,6 +81,7 @@ impl DeviceIdentity {
 }
 
 // The identity that a frame carries for a command whose response it is, or why it carries none.
+#[tactic(auto, unfolding(framing::specs::Payload::typed_in))]
 pub(crate) fn read_identity(
     wanted: u8,
     frame_type: FrameType,

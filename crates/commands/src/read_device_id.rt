@@ -39,6 +39,7 @@ pub fn read_frame(
 }
 
 // The same of a frame that a decoder found.
+#[tactic(auto, unfolding(framing::specs::Payload::typed_of))]
 pub fn read_response(frame: Frame) -> Result<DeviceIdentity, Refusal>
     ensures { identified_of result ≡ typed_of command0 frame }
 {
@@ -53,6 +54,7 @@ pub fn read_request_frame(frame_type: FrameType, command: u8) -> Result<(), Refu
 }
 
 // The same of a frame that a decoder found.
+#[tactic(auto, using(framing::proofs::Requests::asks_alone))]
 pub fn read_request(frame: Frame) -> Result<(), Refusal>
     ensures { judgement_of result ≡ asked_of (no_data 0) frame }
 {

@@ -24,7 +24,7 @@ use types::consts::commands::READ_DEVICE_VARS_WITH_STATUS;
 
 // A unit is its raw byte. The value is that of `bits`, which are the line's own: a value that is the NaN
 // has lost which of its patterns the line sent.
-#[derive(Clone, Copy)]
+#[derive(Clone, Copy, Debug, PartialEq)]
 pub struct DeviceVariable {
     pub device_var_code: u8,
     pub classification: u8,
@@ -35,14 +35,14 @@ pub struct DeviceVariable {
 }
 
 // The codes are the first `count`; zeros follow them.
-#[derive(Clone, Copy)]
+#[derive(Clone, Copy, Debug, PartialEq, Eq)]
 pub struct ReadDeviceVarsRequest {
     pub count: u8,
     pub codes: [u8; MAX_DEVICE_VARS],
 }
 
 // The variables are the first `count`; all zeros follow them.
-#[derive(Clone, Copy)]
+#[derive(Clone, Copy, Debug, PartialEq)]
 pub struct ReadDeviceVarsResponse {
     pub count: u8,
     pub variables: [DeviceVariable; MAX_DEVICE_VARS],
@@ -152,6 +152,7 @@ pub fn decode_data(mode: Mode, data: &[u8]) -> Result<ReadDeviceVarsResponse, Re
 }
 
 // The response that a frame carries, or why it carries none.
+#[tactic(auto, unfolding(framing::specs::Payload::typed_in))]
 pub fn read_frame(
     mode: Mode,
     frame_type: FrameType,
@@ -165,6 +166,7 @@ pub fn read_frame(
 }
 
 // The same of a frame that a decoder found.
+#[tactic(auto, unfolding(framing::specs::Payload::typed_of))]
 pub fn read_response(mode: Mode, frame: Frame) -> Result<ReadDeviceVarsResponse, Refusal>
     ensures { variables_of result ≡ typed_of (command9 mode) frame }
 {
@@ -188,6 +190,7 @@ fn read_codes(data: &[u8]) -> Result<ReadDeviceVarsRequest, Refusal>
 }
 
 // The codes of the variables that a request asks for, as a device reads them.
+#[tactic(auto, unfolding(framing::specs::Requests::asked_in))]
 pub fn read_request_frame(
     frame_type: FrameType,
     command: u8,
@@ -200,6 +203,7 @@ pub fn read_request_frame(
 }
 
 // The same of a frame that a decoder found.
+#[tactic(auto, unfolding(framing::specs::Requests::asked_of))]
 pub fn read_request(frame: Frame) -> Result<ReadDeviceVarsRequest, Refusal>
     ensures { codes_of result ≡ asked_of request9 frame }
 {

@@ -43,6 +43,7 @@ pub fn read_frame(
 }
 
 // The same of a frame that a decoder found.
+#[tactic(auto, unfolding(framing::specs::Payload::typed_of))]
 pub fn read_response(mode: Mode, frame: Frame) -> Result<TagDescriptorDate, Refusal>
     ensures { fields_of result ≡ typed_of (command13 mode) frame }
 {
@@ -57,6 +58,7 @@ pub fn read_request_frame(frame_type: FrameType, command: u8) -> Result<(), Refu
 }
 
 // The same of a frame that a decoder found.
+#[tactic(auto, using(framing::proofs::Requests::asks_alone))]
 pub fn read_request(frame: Frame) -> Result<(), Refusal>
     ensures { judgement_of result ≡ asked_of (no_data 13) frame }
 {

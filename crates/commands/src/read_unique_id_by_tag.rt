@@ -20,7 +20,7 @@ use response::TAG_LENGTH;
 use types::FrameType;
 use types::consts::commands::READ_UNIQUE_ID_BY_TAG;
 
-#[derive(Clone, Copy)]
+#[derive(Clone, Copy, Debug, PartialEq, Eq)]
 pub struct ReadUniqueIdByTagRequest {
     pub tag: [u8; TAG_LENGTH],
 }
@@ -62,6 +62,7 @@ pub fn read_frame(
 }
 
 // The same of a frame that a decoder found.
+#[tactic(auto, unfolding(framing::specs::Payload::typed_of))]
 pub fn read_response(frame: Frame) -> Result<DeviceIdentity, Refusal>
     ensures { identified_of result ≡ typed_of command11 frame }
 {
@@ -81,6 +82,7 @@ fn read_tag(mode: Mode, data: &[u8]) -> Result<ReadUniqueIdByTagRequest, Refusal
 }
 
 // The tag that a request asks for, as a device reads it.
+#[tactic(auto, unfolding(framing::specs::Requests::asked_in))]
 pub fn read_request_frame(
     mode: Mode,
     frame_type: FrameType,
@@ -94,6 +96,7 @@ pub fn read_request_frame(
 }
 
 // The same of a frame that a decoder found.
+#[tactic(auto, unfolding(framing::specs::Requests::asked_of))]
 pub fn read_request(mode: Mode, frame: Frame) -> Result<ReadUniqueIdByTagRequest, Refusal>
     ensures { tagged_of result ≡ asked_of (request11 mode) frame }
 {

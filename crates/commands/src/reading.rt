@@ -5,7 +5,7 @@ ghost use Rattle.std.specs.Float.{binary32};
 ghost use Rattle.std.specs.Float.Ieee.{nan_bits};
 ghost use Rattle.commands.specs.Worth.{float_of, worth_of, worth};
 
-#[derive(Clone, Copy)]
+#[derive(Clone, Copy, Debug, PartialEq)]
 pub enum Reading {
     Good(f32),
     Poor(f32),

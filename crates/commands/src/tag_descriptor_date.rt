@@ -31,7 +31,7 @@ const YEAR_AT: usize = MONTH_AT + 1;
 
 pub(crate) const LAYOUT_SIZE: usize = YEAR_AT + 1;
 
-#[derive(Clone, Copy)]
+#[derive(Clone, Copy, Debug, PartialEq, Eq)]
 pub struct TagDescriptorDate {
     pub tag: [u8; TAG_LENGTH],
     pub descriptor: [u8; DESCRIPTOR_LENGTH],
@@ -84,6 +84,7 @@ pub(crate) fn read_layout(mode: Mode, data: &[u8]) -> Result<TagDescriptorDate, 
 }
 
 // The fields that a frame carries for a command that has this layout, or why it carries none.
+#[tactic(auto, unfolding(framing::specs::Payload::typed_in))]
 pub(crate) fn read_texts(
     wanted: u8,
     mode: Mode,

@@ -53,6 +53,7 @@ pub fn read_frame(
 }
 
 // The same of a frame that a decoder found.
+#[tactic(auto, unfolding(framing::specs::Payload::typed_of))]
 pub fn read_response(mode: Mode, frame: Frame) -> Result<TagDescriptorDate, Refusal>
     ensures { fields_of result ≡ typed_of (command18 mode) frame }
 {
@@ -60,6 +61,7 @@ pub fn read_response(mode: Mode, frame: Frame) -> Result<TagDescriptorDate, Refu
 }
 
 // The fields that a request has, as a device reads them.
+#[tactic(auto, unfolding(framing::specs::Requests::asked_in))]
 pub fn read_request_frame(
     mode: Mode,
     frame_type: FrameType,
@@ -73,6 +75,7 @@ pub fn read_request_frame(
 }
 
 // The same of a frame that a decoder found.
+#[tactic(auto, unfolding(framing::specs::Requests::asked_of))]
 pub fn read_request(mode: Mode, frame: Frame) -> Result<TagDescriptorDate, Refusal>
     ensures { fields_of result ≡ asked_of (command18 mode) frame }
 {

@@ -7,15 +7,12 @@ use mathlib.Core.List.{List, []}
 use lib.ListN.{take}
 use lib.Dec.{eqb}
 use borrow.Author.Tests.{eq-eqb, ne_eqb}
-use Rattle.std.specs.Prelude.{Result, Ok, Err}
-use Rattle.refusal.specs.declared.Refusal.{Refusal}
-use Rattle.refusal.specs.Table.{number_of, values_of}
 use Rattle.types.specs.declared.delimiter.FrameType.{FrameType}
 use Rattle.types.specs.declared.delimiter.FrameType.TheVariants.{Request, Response, Burst}
 use Rattle.line.specs.Layout.{Wire}
 use Rattle.line.specs.machine.Frames.{frame_of}
 use Rattle.line.specs.declared.frame.Frame.{Frame}
-use Rattle.framing.specs.Payload.{Judgement, carries, withheld, judgement_of, Reader, data_of}
+use Rattle.framing.specs.Payload.{Judgement, carries, withheld, Reader}
 use Rattle.framing.specs.Requests.{read_on, request_judgement, asked, asked_in, asked_of, no_data}
 use Rattle.framing.proofs.Payloads.{frame_data}
 
@@ -52,19 +49,6 @@ module _ {A : Type 0} (k : Reader A) where
         by Response false other = refl
         by Burst true other = refl
         by Burst false other = refl
-
-    -- the ways out of a reader's code: the data are read, or the verdict's refusal passed on
-    module _ {v : Result (Unit {0}) Refusal} (said : judgement_of v ≡ asked k.number t command) where
-      pub asks_carried : v ≡ Ok tt → k.read ds ≡ asked_in k t command ds
-      asks_carried told = sym (judged_as (sym said ∙ ap judgement_of told))
-
-      pub asks_refused : {r : Refusal} → v ≡ Err r → k.refuse (number_of r) (values_of r) ≡ asked_in k t command ds
-      asks_refused told = sym (judged_as (sym said ∙ ap judgement_of told))
-
-  -- what was read of a frame's own data, as they are lent, was read of the frame
-  pub asks_lent : (f : Frame) {x : A} {ds : List ℕ} → ds ≡ data_of f → x ≡ asked_in k f.frame_type f.command ds → x ≡ asked_of k f
-  unfolding asked_of
-  asks_lent f lent e = e ∙ ap (asked_in k f.frame_type f.command) lent
 
   -- of a frame as it was heard: the reading of what stood on the line
   pub asks_wire : (w : Wire) → asked_of k (frame_of w) ≡ asked_in k w.opening.frame_type w.command w.payload

@@ -1,22 +1,16 @@
 -- What a typed reading comes to, of any command: callers cite these and not the text of the definitions.
 use Prim.Native.Nat.{ℕ}
-use mathlib.Core.Path.{◌≡◌, refl, sym, ap, ap₂, ◌∙◌}
+use mathlib.Core.Path.{◌≡◌, refl, ap, ◌∙◌}
 use mathlib.Core.Logic.{◌≢◌}
 use mathlib.Core.Bool.{Bool, true, false, cond}
 use mathlib.Core.List.{List, []}
 use lib.ListN.{drop}
 use lib.Dec.{eqb}
-use Rattle.std.specs.Prelude.{Result, Ok, Err}
-use Rattle.std.specs.Borrow.{Bor}
-use Rattle.refusal.specs.declared.Refusal.{Refusal}
-use Rattle.refusal.specs.Table.{number_of, values_of}
-use Rattle.octets.specs.Part.{Part, part_of, from}
 use Rattle.types.specs.declared.delimiter.FrameType.{FrameType}
 use Rattle.types.specs.declared.delimiter.FrameType.TheVariants.{Request}
 use Rattle.line.specs.Layout.{Wire}
 use Rattle.line.specs.machine.Frames.{frame_of}
-use Rattle.line.specs.declared.frame.Frame.{Frame}
-use Rattle.framing.specs.Payload.{Judgement, carries, withheld, payload_judgement, handed, kept, portion_of, portion, typed, Reader, passed_on, typed_in, data_of, typed_of}
+use Rattle.framing.specs.Payload.{Judgement, carries, withheld, payload_judgement, typed, Reader, passed_on, typed_in, typed_of}
 use Rattle.framing.proofs.Payloads.{typed_same, typed_other, frame_data}
 
 module _ {A : Type 0} (k : Reader A) where
@@ -43,29 +37,6 @@ module _ {A : Type 0} (k : Reader A) where
       by : (same : Bool) → passed_on k (cond same (withheld 6 []) (withheld 6 [])) ds ≡ k.refuse 6 []
       by true = refl
       by false = refl
-
-  -- the ways out of a reader's code: the payload that it was handed is read, or its refusal passed on
-  module _ (t : FrameType) (command : ℕ) (p : Part) {v : Result (Bor (List ℕ)) Refusal} (said : portion_of v ≡ portion (typed k.number t command p.bytes) p) where
-    pub reads_handed : {q : Bor (List ℕ)} → v ≡ Ok q → k.read q.now ≡ typed_in k t command p.bytes
-    unfolding typed_in
-    reads_handed {q} told = by (typed k.number t command p.bytes) (ap portion_of (sym told) ∙ said)
-      where
-        by : (j : Judgement) → handed (part_of q) ≡ portion j p → k.read q.now ≡ passed_on k j p.bytes
-        by carries e = let part : part_of q ≡ from 2 p = cc in ap (λ (x : Part). k.read x.bytes) part
-        by (withheld number values) e = cc
-
-    pub reads_refused : {r : Refusal} → v ≡ Err r → k.refuse (number_of r) (values_of r) ≡ typed_in k t command p.bytes
-    unfolding typed_in
-    reads_refused {r} told = by (typed k.number t command p.bytes) (ap portion_of (sym told) ∙ said)
-      where
-        by : (j : Judgement) → kept (number_of r) (values_of r) ≡ portion j p → k.refuse (number_of r) (values_of r) ≡ passed_on k j p.bytes
-        by carries e = cc
-        by (withheld number values) e = let n : number_of r ≡ number = cc in let vs : values_of r ≡ values = cc in ap₂ k.refuse n vs
-
-  -- what was read of a frame's own data, as they are lent, was read of the frame
-  pub reads_lent : (f : Frame) {x : A} {ds : List ℕ} → ds ≡ data_of f → x ≡ typed_in k f.frame_type f.command ds → x ≡ typed_of k f
-  unfolding typed_of
-  reads_lent f lent e = e ∙ ap (typed_in k f.frame_type f.command) lent
 
   -- of a frame as it was heard: the reading of what stood on the line
   pub reads_wire : (w : Wire) → typed_of k (frame_of w) ≡ typed_in k w.opening.frame_type w.command w.payload

@@ -28,6 +28,7 @@ fn status_verdict(data: &[u8]) -> Result<(), Refusal>
 
 // Whether the data carry a payload. Only a device's frames have status bytes, so a request is refused
 // before its data are looked at.
+#[tactic(auto, unfolding(crate::specs::Payload::payload_judgement))]
 pub fn payload_verdict(frame_type: FrameType, data: &[u8]) -> Result<(), Refusal>
     ensures { judgement_of result ≡ payload_judgement frame_type «data».now }
 {
@@ -47,6 +48,7 @@ pub fn payload_in(frame_type: FrameType, data: &[u8]) -> Result<&[u8], Refusal>
 }
 
 // The same, and no bytes of them where there are none to read.
+#[tactic(auto, using(crate::proofs::Payloads::part_or_none))]
 pub fn payload_part(frame_type: FrameType, data: &[u8]) -> &[u8]
     ensures { part_of result ≡ payload_part frame_type (part_of «data».entry) }
 {
@@ -54,6 +56,7 @@ pub fn payload_part(frame_type: FrameType, data: &[u8]) -> &[u8]
 }
 
 // Whether the data carry what a command's own reader asks for: the frame must be of that command.
+#[tactic(auto, unfolding(crate::specs::Payload::typed))]
 pub fn typed_verdict(
     wanted: u8,
     frame_type: FrameType,
@@ -69,6 +72,7 @@ pub fn typed_verdict(
 }
 
 // The payload that a command's own reader is handed, or why there is none.
+#[tactic(auto, unfolding(crate::specs::Payload::typed))]
 pub fn typed_payload(
     wanted: u8,
     frame_type: FrameType,
@@ -95,6 +99,7 @@ fn type_verdict(frame_type: FrameType) -> Result<(), Refusal>
 
 // Whether a frame is the request that a command's own reader asks for, as a device reads it. Its data are not
 // looked at.
+#[tactic(auto, unfolding(crate::specs::Requests::asked))]
 pub fn request_verdict(wanted: u8, frame_type: FrameType, command: u8) -> Result<(), Refusal>
     ensures { judgement_of result ≡ asked wanted frame_type command }
 {
