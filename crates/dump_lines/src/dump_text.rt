@@ -12,6 +12,7 @@ ghost use Rattle.dump_lines.specs.Text.{letter as typeLetter};
 ghost use Rattle.dump_lines.specs.Writing.{end_written};
 ghost use Rattle.dump_lines.specs.Code.{start, Writes, WritesOn};
 
+use crate::Totals;
 use line::{Completed, ROOM};
 use octets::{copy_into, decimal, hex};
 use refusal::Refusal;
@@ -181,21 +182,16 @@ fn letter(frame_type: FrameType) -> u8
 }
 
 // The last line, with the totals, at the front of the buffer; 2 where the longest line would not fit.
-pub(crate) fn write_end(
-    bytes: u64,
-    frames: u64,
-    refusals: u64,
-    out: &mut [u8],
-) -> Result<usize, Refusal>
-    ensures { ends (reply_of result) out.new ≡ end_written bytes frames refusals out.old }
+pub(crate) fn write_end(totals: Totals, out: &mut [u8]) -> Result<usize, Refusal>
+    ensures { ends (reply_of result) out.new ≡ end_written totals.bytes totals.frames totals.refusals out.old }
 {
     if out.len() < LINE_MAX {
         return Err(Refusal::BufferTooSmall);
     }
     let mut writer = Writer { out, at: 0 };
     writer.word(b"end", SPACE);
-    writer.number(bytes, SPACE);
-    writer.number(frames, SPACE);
-    writer.number(refusals, NEWLINE);
+    writer.number(totals.bytes, SPACE);
+    writer.number(totals.frames, SPACE);
+    writer.number(totals.refusals, NEWLINE);
     Ok(writer.at)
 }

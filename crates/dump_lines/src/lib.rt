@@ -105,14 +105,14 @@ impl Dump {
         ensures out_after { out.new ≡ put out.old 0 (printed self.old (taking self.old src.now (length out.old))) }
     {
         let mut writer = Writer { out, at: 0 };
-        for used in 0..src.len() {
+        for (used, byte) in src.iter().enumerate() {
             if !writer.has_room() {
                 return Taken {
                     used,
                     written: writer.at,
                 };
             }
-            self.hear(src[used], &mut writer);
+            self.hear(*byte, &mut writer);
         }
         Taken {
             used: src.len(),
@@ -124,7 +124,6 @@ impl Dump {
     pub fn end(self, out: &mut [u8]) -> Result<usize, Refusal>
         ensures { ends (reply_of result) out.new ≡ end_written self.totals.bytes self.totals.frames self.totals.refusals out.old }
     {
-        let totals = self.totals;
-        write_end(totals.bytes, totals.frames, totals.refusals, out)
+        write_end(self.totals, out)
     }
 }

@@ -1,6 +1,6 @@
 // The payload of a response or a burst frame: document 01, 'Commands'. The verdict and the part are
-// two functions: an enum held no slice when they were made. Beside them the verdict of a device on a request (document 02,
-// 1/12), whose data are the payload.
+// functions of their own beside `payload_in`, which gives both: the part cannot fail. Beside them the verdict of a device on
+// a request (document 02, 1/12), whose data are the payload.
 ghost use Rattle.std.specs.Prelude.{◌≡◌};
 ghost use Rattle.octets.specs.Part.{part_of};
 ghost use Rattle.framing.specs.Requests.{request_judgement, asked};

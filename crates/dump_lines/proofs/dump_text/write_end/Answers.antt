@@ -16,5 +16,5 @@ unfolding end_line end_written
 returns c =
     let a = c.args in
     let w = writes (joined_on c.word.ensures (joined_on c.number.ensures.writes (joined_on c.number-2.ensures.writes c.number-3.ensures.writes))) in
-    let said = put-wrote a.out.now (end_line a.bytes a.frames a.refusals) {b = c.number-3.new.self.out.now} {n = c.number-3.new.self.at} w.content (omega (arith, w.place)) in
+    let said = put-wrote a.out.now (end_line a.totals.bytes a.totals.frames a.totals.refusals) {b = c.number-3.new.self.out.now} {n = c.number-3.new.self.at} w.content (omega (arith, w.place)) in
     rw (le-ltb _ line_max c.if-out-lt-LINE_MAX.false) (search (rules, said))
