@@ -1,9 +1,10 @@
 -- What is answered, by the command and by what is said.
-use Prim.Native.Nat.{ℕ}
+use Prim.Native.Nat.{ℕ, min}
 use mathlib.Core.Path.{◌≡◌, sym, ap, ◌∙◌}
 use mathlib.Core.Logic.{◌≢◌}
 use mathlib.Core.List.{List, [], ◌∷◌}
-use lib.ListN.{take}
+use lib.ListN.{length, take}
+use Rattle.std.proofs.lemmas.List.{take_min}
 use borrow.Author.Tests.{ne_eqb}
 use Rattle.refusal.specs.Outcome.{done, ends}
 use Rattle.types.specs.declared.delimiter.FrameType.TheVariants.{Response}
@@ -26,5 +27,7 @@ module _ (f : Frame) (out payload : List ℕ) {said : Option ℕ} where
   pub answers_nothing : said ≡ None → spoken_by said payload ≡ answer_to f → ends (done (0 ∷ [])) out ≡ answering f out
   answers_nothing e told = answered_by e told
 
-  pub answers_first : {n : ℕ} → said ≡ Some n → spoken_by said payload ≡ answer_to f → encoded Response f.address f.command (take n payload) enough out ≡ answering f out
-  answers_first e told = answered_by e told
+  -- its first bytes, or all of them
+  pub answers_first : {n count : ℕ} → said ≡ Some n → count ≡ min n (length payload) → spoken_by said payload ≡ answer_to f → encoded Response f.address f.command (take count payload) enough out ≡ answering f out
+  answers_first {n} e least told =
+      ap (λ (ds : List ℕ). encoded Response f.address f.command ds enough out) (ap (λ (k : ℕ). take k payload) least ∙ take_min n payload) ∙ answered_by e told

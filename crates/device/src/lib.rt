@@ -4,14 +4,13 @@
 
 mod own;
 
-ghost use Rattle.std.specs.Prelude.{◌≡◌, ◌≤◌, length, take};
+ghost use Rattle.std.specs.Prelude.{◌≡◌};
 ghost use Rattle.refusal.specs.Outcome.{ends, reply_of};
 ghost use Rattle.packed_string.specs.declared.text_group.Mode.TheVariants.{Standard};
 ghost use Rattle.types.specs.declared.delimiter.FrameType.TheVariants.{Request, Response};
 ghost use Rattle.line.specs.Pieces.{enough};
 ghost use Rattle.line.specs.Encode.{encoded};
 ghost use Rattle.framing.specs.Payload.{data_of};
-ghost use Rattle.response.specs.Sizes.{groups_end};
 ghost use Rattle.commands.specs.Tag.{tag_read};
 ghost use Rattle.commands.specs.TagDescriptorDate.{fields_read};
 ghost use Rattle.commands.specs.Variables.{codes_read};
@@ -39,9 +38,11 @@ const TOO_FEW_BYTES: u8 = 5;
 
 const NOT_IMPLEMENTED: u8 = 64;
 
+// A response's bytes stand at its front: none has more.
+type Payload = [u8; GROUPS_END];
+
 // What a response's first bytes are, once they are written: this many of the payload, or none where there is no response.
-fn tell_status(code: u8, payload: &mut [u8]) -> Option<usize>
-    requires { groups_end ≤ length payload.old }
+fn tell_status(code: u8, payload: &mut Payload) -> Option<usize>
     ensures { spoken_by result payload.new ≡ status_alone code }
 {
     payload[0] = code;
@@ -50,8 +51,8 @@ fn tell_status(code: u8, payload: &mut [u8]) -> Option<usize>
 }
 
 // Command 0. A frame that is no such request gets no answer.
-fn tell_identity(frame: Frame, payload: &mut [u8]) -> Option<usize>
-    requires { (groups_end ≤ length payload.old) × (frame.frame_type ≡ Request) × (frame.command ≡ 0) }
+fn tell_identity(frame: Frame, payload: &mut Payload) -> Option<usize>
+    requires { (frame.frame_type ≡ Request) × (frame.command ≡ 0) }
     ensures { spoken_by result payload.new ≡ identifies }
 {
     read_device_id::read_request(frame).ok()?;
@@ -59,8 +60,8 @@ fn tell_identity(frame: Frame, payload: &mut [u8]) -> Option<usize>
 }
 
 // Command 9: the variables that were asked for, in that order.
-fn tell_variables(frame: Frame, payload: &mut [u8]) -> Option<usize>
-    requires { (groups_end ≤ length payload.old) × (frame.frame_type ≡ Request) × (frame.command ≡ 9) }
+fn tell_variables(frame: Frame, payload: &mut Payload) -> Option<usize>
+    requires { (frame.frame_type ≡ Request) × (frame.command ≡ 9) }
     ensures { spoken_by result payload.new ≡ measures (codes_read (data_of frame)) }
 {
     let Ok(request) = read_device_vars::read_request(frame) else {
@@ -72,8 +73,8 @@ fn tell_variables(frame: Frame, payload: &mut [u8]) -> Option<usize>
 }
 
 // Command 11: another tag means another device, and that one answers.
-fn tell_if_tagged(frame: Frame, payload: &mut [u8]) -> Option<usize>
-    requires { (groups_end ≤ length payload.old) × (frame.frame_type ≡ Request) × (frame.command ≡ 11) }
+fn tell_if_tagged(frame: Frame, payload: &mut Payload) -> Option<usize>
+    requires { (frame.frame_type ≡ Request) × (frame.command ≡ 11) }
     ensures { spoken_by result payload.new ≡ recognizes (tag_read Standard (data_of frame)) }
 {
     let Ok(request) = read_unique_id_by_tag::read_request(Mode::Standard, frame) else {
@@ -86,8 +87,8 @@ fn tell_if_tagged(frame: Frame, payload: &mut [u8]) -> Option<usize>
 }
 
 // Command 13.
-fn tell_texts(frame: Frame, payload: &mut [u8]) -> Option<usize>
-    requires { (groups_end ≤ length payload.old) × (frame.frame_type ≡ Request) × (frame.command ≡ 13) }
+fn tell_texts(frame: Frame, payload: &mut Payload) -> Option<usize>
+    requires { (frame.frame_type ≡ Request) × (frame.command ≡ 13) }
     ensures { spoken_by result payload.new ≡ describes }
 {
     read_tag_descriptor_date::read_request(frame).ok()?;
@@ -95,8 +96,8 @@ fn tell_texts(frame: Frame, payload: &mut [u8]) -> Option<usize>
 }
 
 // Command 18: the fields as they were sent. The device is fixed, and keeps none of them.
-fn tell_back(frame: Frame, payload: &mut [u8]) -> Option<usize>
-    requires { (groups_end ≤ length payload.old) × (frame.frame_type ≡ Request) × (frame.command ≡ 18) }
+fn tell_back(frame: Frame, payload: &mut Payload) -> Option<usize>
+    requires { (frame.frame_type ≡ Request) × (frame.command ≡ 18) }
     ensures { spoken_by result payload.new ≡ rewrites (fields_read Standard (data_of frame)) }
 {
     let Ok(request) = write_tag_descriptor_date::read_request(Mode::Standard, frame) else {
@@ -105,8 +106,8 @@ fn tell_back(frame: Frame, payload: &mut [u8]) -> Option<usize>
     write_tag_descriptor_date::encode_response(Mode::Standard, 0, 0, request, payload).ok()
 }
 
-fn tell_request(frame: Frame, payload: &mut [u8]) -> Option<usize>
-    requires { (groups_end ≤ length payload.old) × (frame.frame_type ≡ Request) }
+fn tell_request(frame: Frame, payload: &mut Payload) -> Option<usize>
+    requires { frame.frame_type ≡ Request }
     ensures { spoken_by result payload.new ≡ told_to frame.command (data_of frame) }
 {
     let command = frame.command;
@@ -120,8 +121,7 @@ fn tell_request(frame: Frame, payload: &mut [u8]) -> Option<usize>
     }
 }
 
-fn tell(frame: Frame, payload: &mut [u8]) -> Option<usize>
-    requires { groups_end ≤ length payload.old }
+fn tell(frame: Frame, payload: &mut Payload) -> Option<usize>
     ensures { spoken_by result payload.new ≡ answer_to frame }
 {
     let frame_type = frame.frame_type;
@@ -132,22 +132,15 @@ fn tell(frame: Frame, payload: &mut [u8]) -> Option<usize>
     }
 }
 
-// The response with the first n of some bytes, or all of them.
-fn reply(
-    address: Address,
-    command: u8,
-    bytes: &[u8],
-    n: usize,
-    out: &mut [u8],
-) -> Result<usize, Refusal>
-    ensures { ends (reply_of result) out.new ≡ encoded Response address command (take n bytes.now) enough out.old }
+// The response with these data.
+fn reply(address: Address, command: u8, data: &[u8], out: &mut [u8]) -> Result<usize, Refusal>
+    ensures { ends (reply_of result) out.new ≡ encoded Response address command «data».now enough out.old }
 {
-    let count = n.min(bytes.len());
     encode_frame(
         FrameType::Response,
         address,
         command,
-        &bytes[..count],
+        data,
         MIN_PREAMBLE_COUNT,
         out,
     )
@@ -157,9 +150,10 @@ fn reply(
 pub fn answer(frame: Frame, out: &mut [u8]) -> Result<usize, Refusal>
     ensures { ends (reply_of result) out.new ≡ answering frame out.old }
 {
-    let mut payload = [0u8; GROUPS_END];
+    let mut payload: Payload = [0; GROUPS_END];
     let Some(n) = tell(frame, &mut payload) else {
         return Ok(0);
     };
-    reply(frame.address, frame.command, &payload, n, out)
+    let data = &payload[..n.min(payload.len())];
+    reply(frame.address, frame.command, data, out)
 }

@@ -34,10 +34,7 @@ fn respond(frame: Frame, out: &mut [u8; READ_SIZE]) -> usize
     ensures bound { result ≤ length out.new }
     ensures front { take result out.new ≡ answer_bytes frame }
 {
-    match answer_to(frame, out) {
-        Ok(n) => n,
-        Err(_) => 0,
-    }
+    answer_to(frame, out).unwrap_or(0)
 }
 
 // A device says nothing to what is no frame.

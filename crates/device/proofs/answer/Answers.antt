@@ -1,4 +1,5 @@
 -- By what is said.
+use native.Mathlib.Omega.{arith}
 use mathlib.Core.Path.{◌∙◌}
 use Rattle.device.proofs.Answers.{answers_nothing, answers_first}
 use Rattle.device.proofs.answer.Goals as goal
@@ -11,4 +12,4 @@ returns-in_default c =
 pub returns : goal.returns
 returns c =
     let a = c.args in
-    c.reply.ensures ∙ answers_first a.frame a.out.now c.tell.new.payload c.in-Some.is c.tell.ensures
+    c.reply.ensures ∙ answers_first a.frame a.out.now c.tell.new.payload c.in-Some.is (omega (arith, c.min.ensures)) c.tell.ensures

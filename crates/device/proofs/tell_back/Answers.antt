@@ -14,7 +14,7 @@ pub returns : goal.returns
 returns c =
     let before = c.args.payload.now in
     let r = c.in-Ok.request in
-    let read : fields_of c.read_request.result ≡ fields_read Standard (data_of c.args.frame) = request_read (command18 Standard) c.args.frame c.requires.1 c.requires.2 c.read_request.ensures in
+    let read : fields_of c.read_request.result ≡ fields_read Standard (data_of c.args.frame) = request_read (command18 Standard) c.args.frame c.requires.0 c.requires.1 c.read_request.ensures in
     let w = c.encode_response in
     spoken_wrote w.result (response_data 0 0 (tag_descriptor_date_layout Standard r.tag r.descriptor r.day r.month r.year)) before c.ok.ensures.value w.ensures
     (texts_written before (omega arith) r.tag r.descriptor r.day r.month r.year (fields_good (data_of c.args.frame) r (ap fields_of (sym c.in-Ok.is) ∙ read)))
@@ -23,4 +23,4 @@ returns c =
 pub returns-in_default : goal.returns-in_default
 returns-in_default c =
     c.tell_status.ensures
-    ∙ said_of fields_of rewrites (request_read (command18 Standard) c.args.frame c.requires.1 c.requires.2 c.read_request.ensures) c.in_default.is
+    ∙ said_of fields_of rewrites (request_read (command18 Standard) c.args.frame c.requires.0 c.requires.1 c.read_request.ensures) c.in_default.is

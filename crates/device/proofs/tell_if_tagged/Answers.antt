@@ -36,15 +36,15 @@ returns c =
     let own : same_text q.tag own_tag ≡ true = compared q.tag c.own_tag.ensures c.ne.ensures c.if-ne.false in
     spoken_wrote w.result (response_data 0 0 (lowered_bytes own_identity)) before c.ok.ensures.value (w.ensures ∙ ap (λ (i : DeviceIdentity). identity_responded 0 0 i before) c.own_identity.ensures) (identity_written before (omega arith) own_identity)
     ∙ sym (ap (λ (same : Bool). cond same identifies keeps_silent) own)
-    ∙ said_of tagged_of recognizes (request_read (request11 Standard) c.args.frame c.requires.1 c.requires.2 c.read_request.ensures) c.in-Ok.is
+    ∙ said_of tagged_of recognizes (request_read (request11 Standard) c.args.frame c.requires.0 c.requires.1 c.read_request.ensures) c.in-Ok.is
 
 pub returns-then-ne : goal.returns-then-ne
 returns-then-ne c =
     let own : same_text c.in-Ok.request.tag own_tag ≡ false = compared c.in-Ok.request.tag c.own_tag.ensures c.ne.ensures c.if-ne.true in
     sym (ap (λ (same : Bool). cond same identifies keeps_silent) own)
-    ∙ said_of tagged_of recognizes (request_read (request11 Standard) c.args.frame c.requires.1 c.requires.2 c.read_request.ensures) c.in-Ok.is
+    ∙ said_of tagged_of recognizes (request_read (request11 Standard) c.args.frame c.requires.0 c.requires.1 c.read_request.ensures) c.in-Ok.is
 
 pub returns-in_default : goal.returns-in_default
 returns-in_default c =
     c.tell_status.ensures
-    ∙ said_of tagged_of recognizes (request_read (request11 Standard) c.args.frame c.requires.1 c.requires.2 c.read_request.ensures) c.in_default.is
+    ∙ said_of tagged_of recognizes (request_read (request11 Standard) c.args.frame c.requires.0 c.requires.1 c.read_request.ensures) c.in_default.is

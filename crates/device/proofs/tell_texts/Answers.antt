@@ -21,4 +21,4 @@ returns c =
 
 pub returns-in_err-ok : goal.returns-in_err-ok
 returns-in_err-ok c =
-    absurd (never_refused 13 c.args.frame c.read_request.result c.requires.1 c.requires.2 c.read_request.ensures (sym c.ok.ensures.value ∙ c.in_err-ok.was))
+    absurd (never_refused 13 c.args.frame c.read_request.result c.requires.0 c.requires.1 c.read_request.ensures (sym c.ok.ensures.value ∙ c.in_err-ok.was))

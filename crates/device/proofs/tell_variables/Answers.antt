@@ -26,18 +26,18 @@ few_codes ds read told = codes_few ds (ap codes_of (sym told) ∙ read)
 
 pub slice_bounds-variables-end : goal.slice_bounds-variables-end
 slice_bounds-variables-end c =
-    omega (arith, c.map-variables.ensures.items.long, few_codes (data_of c.args.frame) (request_read request9 c.args.frame c.requires.1 c.requires.2 c.read_request.ensures) c.in-Ok.is)
+    omega (arith, c.map-variables.ensures.items.long, few_codes (data_of c.args.frame) (request_read request9 c.args.frame c.requires.0 c.requires.1 c.read_request.ensures) c.in-Ok.is)
 
 pub slice_bounds-asked-end : goal.slice_bounds-asked-end
 slice_bounds-asked-end c =
-    sym (length-take-le _ c.map-variables.result (omega (arith, c.map-variables.ensures.items.long, few_codes (data_of c.args.frame) (request_read request9 c.args.frame c.requires.1 c.requires.2 c.read_request.ensures) c.in-Ok.is)))
+    sym (length-take-le _ c.map-variables.result (omega (arith, c.map-variables.ensures.items.long, few_codes (data_of c.args.frame) (request_read request9 c.args.frame c.requires.0 c.requires.1 c.read_request.ensures) c.in-Ok.is)))
 
 pub returns : goal.returns
 returns c =
     let before = c.args.payload.now in
     let q = c.in-Ok.request in
     let vs = map own_variable q.codes in
-    let read : codes_of c.read_request.result ≡ codes_read (data_of c.args.frame) = request_read request9 c.args.frame c.requires.1 c.requires.2 c.read_request.ensures in
+    let read : codes_of c.read_request.result ≡ codes_read (data_of c.args.frame) = request_read request9 c.args.frame c.requires.0 c.requires.1 c.read_request.ensures in
     let items = c.map-variables.ensures.items in
     let mapped : c.map-variables.result ≡ vs =
     same_lists c.map-variables.result vs (omega (arith, items.long, length-map q.codes own_variable)) (λ k d h. (items.at k 0 d (omega (arith, items.long))).2.met ∙ sym (get_or-map own_variable q.codes k 0 d (omega (arith, items.long)))) in
@@ -52,4 +52,4 @@ returns c =
 
 pub returns-in_default : goal.returns-in_default
 returns-in_default c =
-    c.tell_status.ensures ∙ said_of codes_of measures (request_read request9 c.args.frame c.requires.1 c.requires.2 c.read_request.ensures) c.in_default.is
+    c.tell_status.ensures ∙ said_of codes_of measures (request_read request9 c.args.frame c.requires.0 c.requires.1 c.read_request.ensures) c.in_default.is

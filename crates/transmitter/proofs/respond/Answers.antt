@@ -1,12 +1,15 @@
 -- The buffer has room for the answer.
-use Rattle.std.proofs.Common.{arith}
-use Rattle.transmitter.proofs.Passing.{answer_never, answer_within, answer_front}
+use Prim.Native.Nat.{ℕ}
+use native.Mathlib.Omega.{arith}
+use mathlib.Core.Path.{ap, ◌∙◌}
+use lib.ListN.{take}
+use Rattle.transmitter.proofs.Passing.{answer_within, answer_front}
 use Rattle.transmitter.proofs.respond.Goals as goal
 
-pub returns-in-Ok : goal.returns-in-Ok
-returns-in-Ok c =
-    let a = c.args in
-    record { bound = answer_within a.frame a.out.now (omega arith) c.in-Ok.ensures (omega arith); front = answer_front a.frame a.out.now (omega arith) c.in-Ok.ensures }
+pub returns-clause-bound : goal.returns-clause-bound
+returns-clause-bound c =
+    omega (arith, c.unwrap_or.ensures, answer_within c.args.frame c.args.out.now (omega arith) c.answer.result c.answer.ensures (omega arith))
 
-pub returns-in-Err : goal.returns-in-Err
-returns-in-Err c = absurd (answer_never c.args.frame c.args.out.now (omega arith) c.in-Err.ensures)
+pub returns-clause-front : goal.returns-clause-front
+returns-clause-front c =
+    ap (λ (n : ℕ). take n c.answer.new.out) c.unwrap_or.ensures ∙ answer_front c.args.frame c.args.out.now (omega arith) c.answer.result c.answer.ensures
