@@ -12,9 +12,9 @@ ghost use Rattle.commands.specs.Responses.{identity_responded};
 
 use crate::data_of;
 use crate::identity::{DeviceIdentity, read_identity, write_identity};
-use crate::tag_descriptor_date::TAG_SIZE;
+use crate::tag_descriptor_date::{TAG_SIZE, unpacked};
 use framing::{Frame, request_verdict};
-use packed_string::{Mode, decode_in, encode_in};
+use packed_string::{Mode, encode_in};
 use refusal::Refusal;
 use response::TAG_LENGTH;
 use types::FrameType;
@@ -45,9 +45,7 @@ pub fn decode_data(data: &[u8]) -> Result<DeviceIdentity, Refusal>
 pub fn decode_tag(mode: Mode, packed: [u8; TAG_SIZE]) -> [u8; TAG_LENGTH]
     ensures { result ≡ unpacked_text mode packed }
 {
-    let mut tag = [0x20u8; TAG_LENGTH];
-    let _ = decode_in(mode, &packed, &mut tag);
-    tag
+    unpacked(mode, &packed)
 }
 
 // The identity that a frame carries, or why it carries none.
@@ -76,9 +74,9 @@ fn read_tag(mode: Mode, data: &[u8]) -> Result<ReadUniqueIdByTagRequest, Refusal
     if data.len() < TAG_SIZE {
         return Err(Refusal::BufferTooShort);
     }
-    let mut tag = [0x20u8; TAG_LENGTH];
-    let _ = decode_in(mode, &data[0..TAG_SIZE], &mut tag);
-    Ok(ReadUniqueIdByTagRequest { tag })
+    Ok(ReadUniqueIdByTagRequest {
+        tag: unpacked(mode, &data[..TAG_SIZE]),
+    })
 }
 
 // The tag that a request asks for, as a device reads it.

@@ -1,9 +1,9 @@
 // A tag, a descriptor and a date in one layout, which the requests and responses that carry them share.
-ghost use Rattle.std.specs.Prelude.{◌≡◌, ◌++◌, ◌≤◌, length};
+ghost use Rattle.std.specs.Prelude.{◌≡◌, ◌++◌, ◌≤◌, ◌*◌, length};
 ghost use Rattle.refusal.specs.Outcome.{ends, reply_of};
 ghost use Rattle.octets.specs.Put.{put};
 ghost use Rattle.framing.specs.Payload.{typed_in};
-ghost use Rattle.packed_string.specs.Modes.{bad_in};
+ghost use Rattle.packed_string.specs.Modes.{bad_in, unpacked_text};
 ghost use Rattle.commands.specs.Code.{texts_fields};
 ghost use Rattle.commands.specs.Responses.{tag_descriptor_date_responded};
 ghost use Rattle.commands.specs.TagDescriptorDate.{texts_length, layout_size, tag_descriptor_date_layout, fields_of, fields_read, texts_reader};
@@ -63,6 +63,16 @@ pub(crate) fn write_layout(mode: Mode, texts: TagDescriptorDate, buf: &mut [u8])
     buf[YEAR_AT] = texts.year;
 }
 
+// The characters of a packed text, four for three bytes.
+pub(crate) fn unpacked<const N: usize>(mode: Mode, packed: &[u8]) -> [u8; N]
+    requires { length packed.now * 4 ≡ N * 3 }
+    ensures { result ≡ unpacked_text mode packed.now }
+{
+    let mut text = [0x20; N];
+    let _ = decode_in(mode, packed, &mut text);
+    text
+}
+
 // Bytes past the layout are not looked at.
 pub(crate) fn read_layout(mode: Mode, data: &[u8]) -> Result<TagDescriptorDate, Refusal>
     ensures { fields_of result ≡ fields_read mode «data».now }
@@ -70,13 +80,9 @@ pub(crate) fn read_layout(mode: Mode, data: &[u8]) -> Result<TagDescriptorDate, 
     if data.len() < LAYOUT_SIZE {
         return Err(Refusal::BufferTooShort);
     }
-    let mut tag = [0x20u8; TAG_LENGTH];
-    let _ = decode_in(mode, &data[0..TAG_SIZE], &mut tag);
-    let mut descriptor = [0x20u8; DESCRIPTOR_LENGTH];
-    let _ = decode_in(mode, &data[TAG_SIZE..DAY_AT], &mut descriptor);
     Ok(TagDescriptorDate {
-        tag,
-        descriptor,
+        tag: unpacked(mode, &data[..TAG_SIZE]),
+        descriptor: unpacked(mode, &data[TAG_SIZE..DAY_AT]),
         day: data[DAY_AT],
         month: data[MONTH_AT],
         year: data[YEAR_AT],
