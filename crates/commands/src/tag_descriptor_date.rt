@@ -4,7 +4,7 @@ ghost use Rattle.refusal.specs.Outcome.{ends, reply_of};
 ghost use Rattle.octets.specs.Put.{put};
 ghost use Rattle.framing.specs.Payload.{typed_in};
 ghost use Rattle.packed_string.specs.Modes.{bad_in, unpacked_text};
-ghost use Rattle.commands.specs.Code.{texts_fields};
+ghost use Rattle.commands.specs.Code.{texts_fields, bad_place_in_text};
 ghost use Rattle.commands.specs.Responses.{tag_descriptor_date_responded};
 ghost use Rattle.commands.specs.TagDescriptorDate.{texts_length, layout_size, tag_descriptor_date_layout, fields_of, fields_read, texts_reader};
 
@@ -18,7 +18,7 @@ use types::FrameType;
 pub(crate) const TAG_SIZE: usize = TAG_LENGTH / 4 * 3;
 
 // The characters of both texts.
-pub(crate) const TEXTS_LENGTH: usize = TAG_LENGTH + DESCRIPTOR_LENGTH;
+const TEXTS_LENGTH: usize = TAG_LENGTH + DESCRIPTOR_LENGTH;
 
 const DESCRIPTOR_SIZE: usize = DESCRIPTOR_LENGTH / 4 * 3;
 
@@ -40,16 +40,16 @@ pub struct TagDescriptorDate {
     pub year: u8,
 }
 
-// The place of the first character without a code, on through the tag and the descriptor, or the length of
-// both.
-pub(crate) fn bad_place_in_texts(mode: Mode, texts: TagDescriptorDate) -> usize
-    ensures { result ≡ bad_in mode (texts.tag ++ texts.descriptor) }
+// The place of the first character without a code, on through the tag and the descriptor.
+pub(crate) fn bad_place_in_texts(mode: Mode, texts: TagDescriptorDate) -> Option<usize>
+    ensures { result ≡ bad_place_in_text mode (texts.tag ++ texts.descriptor) }
 {
     let place = bad_place_in(mode, &texts.tag);
     if place < TAG_LENGTH {
-        return place;
+        return Some(place);
     }
-    TAG_LENGTH + bad_place_in(mode, &texts.descriptor)
+    let place = TAG_LENGTH + bad_place_in(mode, &texts.descriptor);
+    (place < TEXTS_LENGTH).then_some(place)
 }
 
 pub(crate) fn write_layout(mode: Mode, texts: TagDescriptorDate, buf: &mut [u8])

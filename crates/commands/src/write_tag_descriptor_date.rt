@@ -10,8 +10,8 @@ ghost use Rattle.commands.specs.TagDescriptorDate.{tag_descriptor_date_requested
 
 use crate::data_of;
 use crate::tag_descriptor_date::{
-    LAYOUT_SIZE, TEXTS_LENGTH, TagDescriptorDate, bad_place_in_texts, read_layout, read_texts,
-    write_layout, write_texts_and_date,
+    LAYOUT_SIZE, TagDescriptorDate, bad_place_in_texts, read_layout, read_texts, write_layout,
+    write_texts_and_date,
 };
 use framing::{Frame, request_verdict};
 use packed_string::Mode;
@@ -26,8 +26,7 @@ pub fn encode_data(mode: Mode, texts: TagDescriptorDate, buf: &mut [u8]) -> Resu
     if buf.len() < LAYOUT_SIZE {
         return Err(Refusal::BufferTooSmall);
     }
-    let place = bad_place_in_texts(mode, texts);
-    if place < TEXTS_LENGTH {
+    if let Some(place) = bad_place_in_texts(mode, texts) {
         return Err(Refusal::BadCharacter(place));
     }
     write_layout(mode, texts, buf);
