@@ -1,5 +1,8 @@
 // The commands (commands/mod.rs), a module each under the Rust's name, and what a device's identity, a
-// measured value and a tag with descriptor and date are.
+// measured value and a tag with descriptor and date are. The modules have functions of one name, of a line or two each over
+// what they share. A trait over them would be no plainer: two commands read one type, so that each would need a type of its
+// own for its number, and each reading a second one for what its definition says. A response's two status bytes are two
+// numbers throughout, as a frame's data handed over in parts are a type, a command and a slice: so callers have them.
 #![tactic(auto)]
 
 ghost use Rattle.std.specs.Prelude.{◌≡◌};

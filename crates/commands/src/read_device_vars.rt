@@ -34,14 +34,14 @@ pub struct DeviceVariable {
     pub status: u8,
 }
 
-// The codes are the first `count`; zeros follow them.
+// The codes are the first `count`; zeros follow them, as `codes_of` says. Nothing is allocated.
 #[derive(Clone, Copy, Debug, PartialEq, Eq)]
 pub struct ReadDeviceVarsRequest {
     pub count: u8,
     pub codes: [u8; MAX_DEVICE_VARS],
 }
 
-// The variables are the first `count`; all zeros follow them.
+// The variables are the first `count`; all zeros follow them, as `variables_of` says. Nothing is allocated.
 #[derive(Clone, Copy, Debug, PartialEq)]
 pub struct ReadDeviceVarsResponse {
     pub count: u8,

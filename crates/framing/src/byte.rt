@@ -152,7 +152,7 @@ fn checksum(head: Head, command: u8, expected: u8, byte: u8) -> Moved
     })
 }
 
-// A byte is kept at its place, where there is one.
+// A byte is kept at its place, where there is one. (By `get_mut` the proof would not learn that else nothing changed.)
 fn keep(bytes: &mut [u8], place: usize, byte: u8)
     ensures { bytes.new ≡ set bytes.old place byte }
 {

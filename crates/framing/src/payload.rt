@@ -27,7 +27,7 @@ fn status_verdict(data: &[u8]) -> Result<(), Refusal>
 }
 
 // Whether the data carry a payload. Only a device's frames have status bytes, so a request is refused
-// before its data are looked at.
+// before its data are looked at. The two arms that are alike are wrong programs' to tell apart (`burst_is_request`).
 #[tactic(auto, unfolding(crate::specs::Payload::payload_judgement))]
 pub fn payload_verdict(frame_type: FrameType, data: &[u8]) -> Result<(), Refusal>
     ensures { judgement_of result ≡ payload_judgement frame_type «data».now }
@@ -55,7 +55,8 @@ pub fn payload_part(frame_type: FrameType, data: &[u8]) -> &[u8]
     payload_in(frame_type, data).unwrap_or(&data[..0])
 }
 
-// Whether the data carry what a command's own reader asks for: the frame must be of that command.
+// Whether the data carry what a command's own reader asks for: the frame must be of that command. The verdict alone; a reader
+// takes `typed_payload`.
 #[tactic(auto, unfolding(crate::specs::Payload::typed))]
 pub fn typed_verdict(
     wanted: u8,

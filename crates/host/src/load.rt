@@ -15,7 +15,7 @@ pub const BLOCK_SIZE: usize = HEADER_SIZE + ROOM;
 // The header, and behind it the bytes that a decoder holds.
 pub(crate) type Block = [u8; BLOCK_SIZE];
 
-// The header as a number, high byte first.
+// The header as a number, high byte first: six bytes, for which std has no `from_be_bytes`.
 fn header_in(block: &Block) -> u64
     ensures { result ≡ header_in block.now }
 {

@@ -9,7 +9,7 @@ pub(crate) fn first_bad(src: &[u8]) -> Option<usize>
     src.iter().position(|c| !(0x20..=0x5F).contains(c))
 }
 
-// The same, or the text's length.
+// The same, or the text's length: the definition's number, which callers of old go by.
 pub fn bad_place(src: &[u8]) -> usize
     ensures { result ≡ bad_place src.now }
 {

@@ -15,7 +15,7 @@ pub enum FrameType {
 }
 
 impl FrameType {
-    // The number that a C host's block and record give it.
+    // The number that a C host's block and record give it. (`From` would not say which of its numbers is meant.)
     pub fn number(self) -> u8
         ensures { result ≡ type_number self }
     {
