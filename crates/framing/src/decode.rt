@@ -74,7 +74,8 @@ impl Decoder {
     pub fn feed(self, byte: u8) -> Fed
         ensures { result ≡ fed self byte }
     {
-        if !self.is_reachable() {
+        // Not by the method: it would take a copy of the bytes.
+        if !is_reachable(self.state, &self.bytes) {
             return Fed {
                 heard: Err(Refusal::BadState),
                 next: self,
