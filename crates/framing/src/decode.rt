@@ -74,14 +74,14 @@ impl Decoder {
     pub fn feed(self, byte: u8) -> Fed
         ensures { result ≡ fed self byte }
     {
-        // Not by the method: it would take a copy of the bytes.
-        if !is_reachable(self.state, &self.bytes) {
+        // Not by the method, which takes one more copy of the bytes.
+        let mut bytes = self.bytes;
+        if !is_reachable(self.state, &bytes) {
             return Fed {
                 heard: Err(Refusal::BadState),
                 next: self,
             };
         }
-        let mut bytes = self.bytes;
         let moved = step(self.state, &mut bytes, byte);
         ended_with(moved, bytes)
     }
