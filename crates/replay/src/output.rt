@@ -94,9 +94,6 @@ impl Output {
 
 impl Write for Output {
     fn write_str(&mut self, text: &str) -> fmt::Result {
-        for byte in text.bytes() {
-            self.put(byte)?;
-        }
-        Ok(())
+        self.bytes.extend(text.as_bytes()).or(Err(fmt::Error))
     }
 }

@@ -70,17 +70,22 @@ impl fmt::Display for Identity {
             flags,
             device_id,
         } = self.0;
+        let revisions = [
+            min_preamble_count,
+            hart_revision,
+            device_revision,
+            software_revision,
+            hardware_revision,
+            physical_signaling,
+            flags,
+        ];
         write!(
             f,
-            "{expansion_code:02X}{expanded_device_type:04X}{min_preamble_count:02X}"
-        )?;
-        write!(
-            f,
-            "{hart_revision:02X}{device_revision:02X}{software_revision:02X}"
-        )?;
-        write!(
-            f,
-            "{hardware_revision:02X}{physical_signaling:02X}{flags:02X}{device_id:08X}"
+            "{}{}{}{}",
+            Hex(&[expansion_code]),
+            Hex(&expanded_device_type.to_be_bytes()),
+            Hex(&revisions),
+            Hex(&device_id.to_be_bytes())
         )
     }
 }
@@ -106,7 +111,10 @@ fn write_variable<W: fmt::Write>(
     } = variable;
     write!(
         f,
-        "{device_var_code:02X}{classification:02X}{unit:02X}{bits:08X}{status:02X}"
+        "{}{}{}",
+        Hex(&[device_var_code, classification, unit]),
+        Hex(&bits.to_be_bytes()),
+        Hex(&[status])
     )
 }
 
