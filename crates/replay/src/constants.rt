@@ -1,8 +1,6 @@
 // The numbers of frames, delimiters, addresses and commands, letter x: document 01, 'Modules'.
 use crate::given::Given;
 use crate::output::{Answered, Output};
-use crate::shown::Hex;
-use std::fmt::Write;
 use types::consts::address::{
     BURST_MODE_BIT, MANUFACTURER_ID_MASK, PRIMARY_MASTER_BIT, SHORT_ADDRESS_MASK,
 };
@@ -71,10 +69,9 @@ pub(crate) fn put_constants(given: Given, out: &mut Output) -> Answered {
         out.put_gap()?;
         let [.., high, low] = number.to_be_bytes();
         if high > 0 {
-            write!(out, "{}", Hex(&[high, low]))?;
-        } else {
-            write!(out, "{}", Hex(&[low]))?;
+            out.put_hex(high)?;
         }
+        out.put_hex(low)?;
     }
     Ok(())
 }

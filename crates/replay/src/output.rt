@@ -1,6 +1,7 @@
 // The answers that are not written yet, and what keeps a line from an answer.
 use crate::bytes::Bytes;
 use crate::given::NoCase;
+use octets::hex;
 use std::fmt;
 use std::fmt::Write;
 
@@ -53,6 +54,11 @@ impl Output {
 
     pub(crate) fn put(&mut self, byte: u8) -> fmt::Result {
         self.bytes.push(byte).or(Err(fmt::Error))
+    }
+
+    // A byte as two digits.
+    pub(crate) fn put_hex(&mut self, byte: u8) -> fmt::Result {
+        self.bytes.extend(&hex(byte)).or(Err(fmt::Error))
     }
 
     // Parts what follows from what the answer has, if that is anything.

@@ -1,5 +1,5 @@
 // The calls that only read, letters a, s, i, I, g, G, j, k, K, h, H and J.
-use crate::addresses::AddressBytes;
+use crate::addresses::address_bytes;
 use crate::given::Given;
 use crate::output::{Answered, Output};
 use crate::shown::{Hex, Told};
@@ -22,7 +22,7 @@ struct Located {
 
 impl fmt::Display for Located {
     fn fmt<W: fmt::Write>(&self, f: &mut fmt::Formatter<W>) -> fmt::Result {
-        write!(f, "{} {}", self.used, AddressBytes(self.address))
+        write!(f, "{} {}", self.used, Hex(&address_bytes(self.address)))
     }
 }
 
@@ -109,13 +109,18 @@ fn write_variable<W: fmt::Write>(
         bits,
         status,
     } = variable;
-    write!(
-        f,
-        "{}{}{}",
-        Hex(&[device_var_code, classification, unit]),
-        Hex(&bits.to_be_bytes()),
-        Hex(&[status])
-    )
+    let [first, second, third, fourth] = bits.to_be_bytes();
+    let bytes = [
+        device_var_code,
+        classification,
+        unit,
+        first,
+        second,
+        third,
+        fourth,
+        status,
+    ];
+    write!(f, "{}", Hex(&bytes))
 }
 
 impl fmt::Display for Variables {
