@@ -61,6 +61,15 @@ impl Output {
         self.bytes.extend(&hex(byte)).or(Err(fmt::Error))
     }
 
+    // The room that is left. What is written there is put by `grow`.
+    pub(crate) fn spare(&mut self) -> &mut [u8] {
+        self.bytes.spare()
+    }
+
+    pub(crate) fn grow(&mut self, count: usize) -> fmt::Result {
+        self.bytes.grow(count).or(Err(fmt::Error))
+    }
+
     // Parts what follows from what the answer has, if that is anything.
     pub(crate) fn put_gap(&mut self) -> fmt::Result {
         if self.answer < self.bytes.len() {
