@@ -61,7 +61,7 @@ impl Output {
         self.bytes.extend(&hex(byte)).or(Err(fmt::Error))
     }
 
-    // The room that is left. What is written there is put by `grow`.
+    // The room that is left; no answer is longer. What a call wrote at its front is put by `grow`.
     pub(crate) fn spare(&mut self) -> &mut [u8] {
         self.bytes.spare()
     }

