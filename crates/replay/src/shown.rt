@@ -26,7 +26,7 @@ pub(crate) struct Refused(pub Refusal);
 #[derive(Drop)]
 pub(crate) struct Told<T>(pub Result<T, Refusal>);
 
-// All digits of a piece are handed over together: a `{:02X}` for each byte takes six times as long.
+// All digits of a piece are handed over together: a `{:02X}` for each byte takes over ten times as long.
 fn write_piece<W: fmt::Write>(piece: &[u8], f: &mut fmt::Formatter<W>) -> fmt::Result
     requires { length piece.now ≤ PIECE }
 {
