@@ -2,10 +2,11 @@
 use Prim.Native.Nat.{ℕ, zero, suc, ◌+◌, ◌*◌, ◌≤◌, ◌<◌}
 use native.Mathlib.Nat.{zero-add}
 use native.Mathlib.Omega.{arith}
-use mathlib.Core.Path.{◌≡◌, refl, sym, ap, ◌∙◌}
+use mathlib.Core.Path.{◌≡◌, refl, sym, ap, ap₂, ◌∙◌}
 use mathlib.Core.Bool.{Bool, true, false, cond}
 use mathlib.Core.List.{List, [], ◌∷◌, ◌++◌}
-use lib.ListN.{length, get_or}
+use lib.ListN.{length, get_or, take}
+use lib.Seq.{get_or-take}
 use lib.Dec.{ltb}
 use borrow.Author.Tests.{lt-ltb, le-ltb, ltb-true, ltb-false}
 use Rattle.refusal.specs.Outcome.{refuses}
@@ -16,7 +17,8 @@ use Rattle.packed_string.specs.Modes.{packed_size, bad_in, fields_written}
 use Rattle.packed_string.proofs.Texts.{bad_in_within}
 use Rattle.line.specs.Layout.{most_data}
 use Rattle.response.specs.Sizes.{tag_length, tag_size, descriptor_length, group_size, most_variables, status_size, extended_size, groups_end, most_fields}
-use Rattle.response.specs.Writer.{field_at}
+use Rattle.response.specs.Field.{field_of}
+use Rattle.response.specs.Writer.{field_at, with_field}
 use Rattle.response.specs.Whole.{bad_through, responded}
 use Rattle.response.specs.declared.field.Kind.TheVariants.{Bytes, Group, Text}
 use Rattle.response.specs.declared.writer.ResponseFields.{ResponseFields}
@@ -59,6 +61,11 @@ module _ (first second : ℕ) where
         gathered_as (gathered_with (groups_gathered n (omega arith)) (omega arith) Group (group_bytes (get_or vs n no_variable)))
         (le-ltb groups_end (before + group_size) (omega arith)) (omega arith) refl refl
         (ap (λ (gs : List ℕ). first ∷ second ∷ extended ∷ gs) (sym (parts_suc (λ (k : ℕ). group_bytes (get_or vs k no_variable)) n)))
+
+    -- the fields of the first variables are those of all of them
+    pub fields_taken : (n m : ℕ) → m ≤ n → variables_fields first second extended (take n vs) m ≡ variables_fields first second extended vs m
+    fields_taken n zero h = refl
+    fields_taken n (suc m) h = ap₂ (λ (f : ResponseFields) (v : DeviceVariable). with_field f (field_of Group (group_bytes v))) (fields_taken n m (omega arith)) (get_or-take n vs m no_variable (omega arith))
 
     pub variables_responded_lem : (n : ℕ) → n ≤ most_variables → (payload : List ℕ)
         → let fields = variables_fields first second extended vs n in responded (field_at fields) fields.count payload ≡ variables_responded first second extended vs n payload

@@ -224,20 +224,22 @@ fn fields_of(first: u8, second: u8, extended: u8, variables: &[DeviceVariable]) 
     fields
 }
 
-// Writes a device's response: the two status bytes, the extended status and the groups of the variables, of which
-// there are eight at most.
+// Writes a device's response: the two status bytes, the extended status and the groups of the first `count`
+// variables, of which there are eight at most.
 pub fn encode_response(
     first: u8,
     second: u8,
     extended: u8,
-    variables: &[DeviceVariable],
+    variables: [DeviceVariable; MAX_DEVICE_VARS],
+    count: u8,
     payload: &mut [u8],
 ) -> Result<usize, Refusal>
-    ensures { ends (reply_of result) payload.new ≡ variables_responded first second extended variables.now (length variables.now) payload.old }
+    ensures { ends (reply_of result) payload.new ≡ variables_responded first second extended variables count payload.old }
 {
-    if variables.len() > MAX_DEVICE_VARS {
+    let n = count as usize;
+    if n > MAX_DEVICE_VARS {
         return Err(Refusal::DataTooLong);
     }
-    let fields = fields_of(first, second, extended, variables);
+    let fields = fields_of(first, second, extended, &variables[..n]);
     write_response(fields, payload)
 }

@@ -1,17 +1,16 @@
 -- What a writer's call left in the payload is what is said; and what each command's fields come to, where they have room.
-use Prim.Native.Nat.{ℕ, zero, suc, ◌+◌, ◌*◌, ◌≤◌}
+use Prim.Native.Nat.{ℕ, ◌+◌, ◌*◌, ◌≤◌}
 use native.Mathlib.Omega.{arith}
-use mathlib.Core.Path.{◌≡◌, refl, sym, ap, ap₂, ◌∙◌}
+use mathlib.Core.Path.{◌≡◌, refl, sym, ap, ◌∙◌}
 use mathlib.Core.List.{List, [], ◌∷◌, ◌++◌}
 use lib.ListN.{length, get_or, take, set}
-use lib.Seq.{get_or-take}
 use borrow.Author.Tests.{le-ltb}
 use Rattle.std.specs.Prelude.{Option, Result, Ok, Err}
 use Rattle.std.specs.Result.{result_ok}
 use Rattle.refusal.specs.declared.Refusal.{Refusal}
 use Rattle.refusal.specs.Outcome.{Outcome, ends, reply_of, wrote}
 use Rattle.refusal.proofs.Leaves.{leaves_wrote}
-use Rattle.octets.proofs.Parts.{parts_zero, parts_suc, length_parts}
+use Rattle.octets.proofs.Parts.{length_parts}
 use Rattle.packed_string.specs.declared.text_group.Mode.TheVariants.{Standard}
 use Rattle.packed_string.specs.Modes.{bad_in}
 use Rattle.packed_string.proofs.Texts.{fields_fit}
@@ -38,14 +37,6 @@ status_stored [] first second h = absurd (omega arith)
 status_stored (x ∷ []) first second h = absurd (omega arith)
 status_stored (x ∷ y ∷ payload) first second h = refl
 
--- the groups of the first variables are those of all of them
-groups_taken : (vs : List DeviceVariable) (n m : ℕ) → m ≤ n → groups_bytes (take n vs) m ≡ groups_bytes vs m
-groups_taken vs n zero h = parts_zero (λ (k : ℕ). group_bytes (get_or (take n vs) k no_variable)) ∙ sym (parts_zero (λ (k : ℕ). group_bytes (get_or vs k no_variable)))
-groups_taken vs n (suc m) h =
-    parts_suc (λ (k : ℕ). group_bytes (get_or (take n vs) k no_variable)) m
-    ∙ ap₂ (λ (gs : List ℕ) (v : DeviceVariable). gs ++ group_bytes v) (groups_taken vs n m (omega arith)) (get_or-take n vs m no_variable (omega arith))
-    ∙ sym (parts_suc (λ (k : ℕ). group_bytes (get_or vs k no_variable)) m)
-
 module _ (before : List ℕ) (room : groups_end ≤ length before) where
   data_written : (first second : ℕ) (bytes : List ℕ) → length (response_data first second bytes) ≤ groups_end → response_written first second bytes before ≡ wrote (response_data first second bytes) before
   unfolding response_written
@@ -59,10 +50,6 @@ module _ (before : List ℕ) (room : groups_end ≤ length before) where
   variables_written vs n h =
       let size : length (groups_bytes vs n) ≡ n * group_size = length_parts (λ (k : ℕ). group_bytes (get_or vs k no_variable)) group_size (λ k. refl) n in
       rw (le-ltb most_variables n h) (data_written 0 0 (0 ∷ groups_bytes vs n) (omega arith))
-
-  -- of those, as many as stand at the front
-  pub first_written : (vs : List DeviceVariable) (n : ℕ) → n ≤ most_variables → variables_responded 0 0 0 (take n vs) n before ≡ wrote (response_data 0 0 (0 ∷ groups_bytes vs n)) before
-  first_written vs n h = variables_written (take n vs) n h ∙ ap (λ (gs : List ℕ). wrote (response_data 0 0 (0 ∷ gs)) before) (groups_taken vs n n (omega arith))
 
   pub texts_written : (tag descriptor : List ℕ) (day month year : ℕ) → length (tag ++ descriptor) ≤ bad_in Standard (tag ++ descriptor)
       → tag_descriptor_date_responded Standard 0 0 tag descriptor day month year before ≡ wrote (response_data 0 0 (tag_descriptor_date_layout Standard tag descriptor day month year)) before

@@ -68,8 +68,7 @@ fn tell_variables(frame: Frame, payload: &mut Payload) -> Option<usize>
         return tell_status(TOO_FEW_BYTES, payload);
     };
     let variables = request.codes.map(own_variable);
-    let asked = &variables[..request.count as usize];
-    read_device_vars::encode_response(0, 0, 0, asked, payload).ok()
+    read_device_vars::encode_response(0, 0, 0, variables, request.count, payload).ok()
 }
 
 // Command 11: another tag means another device, and that one answers.

@@ -6,7 +6,7 @@ use mathlib.Core.Path.{◌≡◌, refl, ap}
 use mathlib.Core.Logic.{◌≢◌, ◌↔◌}
 use mathlib.Core.Bool.{Bool, true, false, cond, not}
 use mathlib.Core.List.{List, []}
-use lib.ListN.{length, get_or, replicate}
+use lib.ListN.{length, get_or, drop, replicate}
 use lib.Seq.{take-append_seam}
 use lib.Dec.{eqb}
 use borrow.Author.Tests.{ltb-false, eqb-true, not-false, le-ltb, eq-eqb, ne_eqb}
@@ -72,6 +72,19 @@ module _ (wanted : ℕ) (t : FrameType) (command : ℕ) (ds : List ℕ) where
   pub typed_other : command ≢ wanted → typed wanted t command ds ≡ withheld 6 []
   unfolding typed
   typed_other n = rw (ne_eqb command wanted n)
+
+  -- what is carried for a command is carried at all
+  typed_carries : typed wanted t command ds ≡ carries → payload_judgement t ds ≡ carries
+  unfolding typed
+  typed_carries e = by (eqb command wanted) e
+    where
+      by : (same : Bool) → cond same (payload_judgement t ds) (withheld 6 []) ≡ carries → payload_judgement t ds ≡ carries
+      by true f = f
+      by false f = cc
+
+-- a typed reading reads what stands behind the status bytes
+pub typed_part : (wanted : ℕ) (t : FrameType) (command : ℕ) (p : Part) → typed wanted t command p.bytes ≡ carries → (payload_part t p).bytes ≡ drop 2 p.bytes
+typed_part wanted t command p e = ap (λ (q : Part). q.bytes) (part_carried t p (typed_carries wanted t command p.bytes e))
 
 -- a frame as it was heard has the payload of the line, without a byte of what fills its array
 pub frame_data : (w : Wire) → data_of (frame_of w) ≡ w.payload

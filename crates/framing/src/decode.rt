@@ -74,13 +74,14 @@ impl Decoder {
     pub fn feed(self, byte: u8) -> Fed
         ensures { result ≡ fed self byte }
     {
-        if !self.is_reachable() {
+        // Not by the method, which takes one more copy of the bytes.
+        let mut bytes = self.bytes;
+        if !is_reachable(self.state, &bytes) {
             return Fed {
                 heard: Err(Refusal::BadState),
                 next: self,
             };
         }
-        let mut bytes = self.bytes;
         let moved = step(self.state, &mut bytes, byte);
         ended_with(moved, bytes)
     }

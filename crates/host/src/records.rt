@@ -9,7 +9,6 @@ ghost use Rattle.host.specs.Record.{frame_first, frame_record, refusal_record, r
 use crate::block_header::{HEADER_SIZE, long_bit};
 use crate::load::Block;
 use line::Completed;
-use octets::copy_into;
 use refusal::Refusal;
 use types::consts::MAX_DATA_LENGTH;
 use types::{Address, HEAD_ROOM, Opening, address_length};
@@ -34,6 +33,17 @@ fn frame_first(opening: Opening) -> u8
     (frame_type.number() * 2 + long_bit(opening.is_long)) * 8
 }
 
+// The data, byte by byte: the copy of a slice is a call of memmove, and all that the archive for C needs of the C
+// library is memset (include/hart.h).
+fn write_data(data: &[u8], room: &mut Room, at: usize)
+    requires { at + length «data».now ≤ length room.old }
+    ensures { room.new ≡ put room.old at «data».now }
+{
+    for (i, byte) in data.iter().enumerate() {
+        room[at + i] = *byte;
+    }
+}
+
 // A frame's record, and how many bytes it has. The address goes through our own reader and writer, so
 // that bits that say nothing are zero.
 fn write_frame(completed: Completed, block: &Block, room: &mut Room) -> u32
@@ -54,7 +64,7 @@ fn write_frame(completed: Completed, block: &Block, room: &mut Room) -> u32
     room[next + 1] = count;
     let at = next + 2;
     let to = HEAD_ROOM + count as usize;
-    copy_into(&bytes[HEAD_ROOM..to], room, at);
+    write_data(&bytes[HEAD_ROOM..to], room, at);
     (at + count as usize) as u32
 }
 

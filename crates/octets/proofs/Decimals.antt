@@ -1,14 +1,16 @@
 -- Decimal text: its last digit, its length, and some numbers as a reader expects them.
-use Prim.Native.Nat.{ℕ, zero, suc, ◌*◌, ◌/◌, ◌%◌, ◌^◌, ◌≤◌, ◌<◌}
+use Prim.Native.Nat.{ℕ, zero, suc, ◌-◌, ◌*◌, ◌/◌, ◌%◌, ◌^◌, ◌≤◌, ◌<◌}
 use native.Mathlib.Omega.{arith}
 use native.Mathlib.Nat.{pow-suc}
 use mathlib.Core.Path.{◌≡◌, refl, ap, ◌∙◌}
 use mathlib.Core.Bool.{Bool, true, false, cond}
 use mathlib.Core.List.{List, [], ◌∷◌, ◌++◌}
-use lib.ListN.{length, length-append}
+use lib.ListN.{length, take, drop, replicate, length-append, length-replicate}
+use lib.Seq.{take_all, drop_at}
 use lib.Dec.{T, ltb, leb, leb→le, lit<}
 use borrow.Author.Tests.{lt-ltb, le-ltb, ltb-true, ltb-false}
-use Rattle.octets.specs.Figures.{digit, decimal_within, decimal, hex_byte, hex}
+use Rattle.octets.specs.Figures.{digit, decimal_within, decimal, decimal_of, hex_byte, hex}
+use Rattle.octets.specs.declared.figures.Digits.{Digits}
 
 -- any bound that is not too small serves
 within_same : (j k n : ℕ) → n ≤ j → n ≤ k → decimal_within j n ≡ decimal_within k n
@@ -56,6 +58,22 @@ length_below (suc k) n h = by (ltb n 10) refl (length_below k (n / 10))
 -- a u64 fits its room
 pub length-decimal : (n : ℕ) → n < 2 ^ 64 → length (decimal n) ≤ 20
 length-decimal n h = length_below 19 n (omega arith)
+
+-- the text that is handed over, and the part of it that is the number
+module _ (n : ℕ) (small : n < 2 ^ 64) {d : Digits} (e : d ≡ decimal_of n) where
+  pub from_within : d.from ≤ 20
+  from_within = rw e (omega arith)
+
+  zeros : length (replicate {A = ℕ} (20 - length (decimal n)) 0) ≡ 20 - length (decimal n)
+  zeros = length-replicate {A = ℕ} (20 - length (decimal n)) 0
+
+  pub length-text : length d.text ≡ 20
+  length-text = rw e (omega (arith, length-append (replicate (20 - length (decimal n)) 0) (decimal n), zeros, length-decimal n small))
+
+  pub text_part : take (20 - d.from) (drop d.from d.text) ≡ decimal n
+  text_part =
+      let size : length (decimal n) ≤ 20 - (20 - length (decimal n)) = omega (arith, length-decimal n small) in
+      rw (e, drop_at (replicate (20 - length (decimal n)) 0) (decimal n) (20 - length (decimal n)) zeros) (take_all (20 - (20 - length (decimal n))) (decimal n) size)
 
 -- a byte has three digits at most
 pub length-decimal_byte : (n : ℕ) → n < 256 → length (decimal n) ≤ 3

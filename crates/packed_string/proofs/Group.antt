@@ -1,13 +1,11 @@
 -- A group: its bytes and codes as the code works them out, and that these undo one another.
 use Prim.Native.Nat.{ℕ, ◌+◌, ◌*◌, ◌/◌, ◌%◌, ◌<◌}
 use native.Mathlib.Omega.{arith}
-use mathlib.Core.Path.{◌≡◌, sym, ap, subst, ◌∙◌}
+use mathlib.Core.Path.{◌≡◌, sym, ap, ◌∙◌}
 use mathlib.Core.List.{List, [], ◌∷◌}
 use lib.Dec.{lit<}
 use lib.ListN.{length, get_or}
 use lib.Seq.{take_all}
-use Rattle.std.specs.Array.{list_steps}
-use Rattle.std.specs.Iterator.{Yields, CallableAtEachTurn}
 use Rattle.octets.proofs.Places.{taken}
 use Rattle.octets.specs.Digits.{Below, from_digits, digits}
 use Rattle.octets.proofs.Bases.{from_digits_whole, from_below, digits_below, digits_from}
@@ -21,15 +19,6 @@ three l e = sym (take_all 3 l (omega arith)) ∙ taken l 0 0 3 (omega arith)
 
 pub four : (l : List ℕ) → length l ≡ 4 → l ≡ get_or l 0 0 ∷ get_or l 1 0 ∷ get_or l 2 0 ∷ get_or l 3 0 ∷ []
 four l e = sym (take_all 4 l (omega arith)) ∙ taken l 0 0 4 (omega arith)
-
--- codes below 64, handed one after another to a call that takes any such code
-module _ {P : Type 0} (R : P → ℕ → P → Type 0) (Q : P → ℕ → Type 0) (takes : (p : P) (code : ℕ) → code < 64 → Q p code) where
-  each_taken : (gone codes left behind : List ℕ) (code : ℕ) → Below 64 codes → Yields list_steps codes gone left → left ≡ code ∷ behind → code < 64
-  each_taken [] codes left behind code b y e = (subst (Below 64) (y ∙ e) b).0
-  each_taken (c ∷ gone) codes left behind code b y e = each_taken gone y.0 left behind code (subst (Below 64) y.1 b).1 y.2 e
-
-  pub codes_taken : (codes : List ℕ) (p : P) → Below 64 codes → CallableAtEachTurn list_steps R Q codes p
-  codes_taken codes p b = record { at = λ gone left q code behind y f e. takes q code (each_taken gone codes left behind code b y e) }
 
 -- three digits base 256 of four digits base 64, byte by byte
 pub pack_group_lem : (a b c d : ℕ) → a < 64 → b < 64 → c < 64 → d < 64 → (a * 4 + b / 16) ∷ (b % 16 * 16 + c / 4) ∷ (c % 4 * 64 + d) ∷ [] ≡ pack_group (a ∷ b ∷ c ∷ d ∷ [])

@@ -26,7 +26,7 @@ fn packed_at(mode: Mode, src: &[u8], g: usize) -> [u8; 3]
         character_at(src, base + 2),
         character_at(src, base + 3),
     ];
-    packed_group(mode, group)
+    packed_group(mode, &group)
 }
 
 // Group g of some bytes, as characters.

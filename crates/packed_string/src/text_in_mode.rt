@@ -19,6 +19,8 @@ pub fn encode_in(mode: Mode, src: &[u8], dst: &mut [u8]) -> Result<usize, Refusa
     }
 }
 
+// Into the caller, who mostly knows both sizes: then no loop is left of so few groups.
+#[inline(always)]
 #[tactic(auto, unfolding(crate::specs::Modes::unpacked_in))]
 pub fn decode_in(mode: Mode, src: &[u8], dst: &mut [u8]) -> Result<usize, Refusal>
     ensures { ends (reply_of result) dst.new ≡ unpacked_in mode src.now dst.old }

@@ -19,9 +19,9 @@ impl From<Full> for NoCase {
 impl Buffer {
     // Of so many bytes. One that a call leaves alone can be told by its place.
     pub(crate) fn new(length: usize) -> Result<Buffer, NoCase> {
-        let mut bytes = Bytes::new();
-        for i in 0..length {
-            bytes.push(0xA0 | (i % 16) as u8)?;
+        let mut bytes = Bytes::zeroed(length)?;
+        for (place, byte) in bytes.as_mut_slice().iter_mut().enumerate() {
+            *byte = 0xA0 | (place % 16) as u8;
         }
         Ok(Buffer(bytes))
     }
@@ -29,9 +29,7 @@ impl Buffer {
     // Of these bytes.
     pub(crate) fn holding(held: &[u8]) -> Result<Buffer, NoCase> {
         let mut bytes = Bytes::new();
-        for byte in held {
-            bytes.push(*byte)?;
-        }
+        bytes.extend(held)?;
         Ok(Buffer(bytes))
     }
 

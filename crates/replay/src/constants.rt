@@ -1,7 +1,6 @@
 // The numbers of frames, delimiters, addresses and commands, letter x: document 01, 'Modules'.
 use crate::given::Given;
 use crate::output::{Answered, Output};
-use std::fmt::Write;
 use types::consts::address::{
     BURST_MODE_BIT, MANUFACTURER_ID_MASK, PRIMARY_MASTER_BIT, SHORT_ADDRESS_MASK,
 };
@@ -68,11 +67,11 @@ pub(crate) fn put_constants(given: Given, out: &mut Output) -> Answered {
     given.end()?;
     for number in CONSTANTS {
         out.put_gap()?;
-        if number > 255 {
-            write!(out, "{number:04X}")?;
-        } else {
-            write!(out, "{number:02X}")?;
+        let [.., high, low] = number.to_be_bytes();
+        if high > 0 {
+            out.put_hex(high)?;
         }
+        out.put_hex(low)?;
     }
     Ok(())
 }

@@ -3,33 +3,27 @@ use crate::given::Given;
 use crate::output::{Answered, Failed, Output};
 use crate::shown::Refused;
 use dump_lines::{Dump, LINE_MAX};
-use std::fmt;
 use std::fmt::Write;
 
-// No answer has more room.
-const LINES_MAX: usize = 65536;
-
 // A line's end within an answer is a semicolon.
-fn put_lines(lines: &[u8], out: &mut Output) -> fmt::Result {
+fn end_with_semicolons(lines: &mut [u8]) {
     for character in lines {
-        out.put(if *character == b'\n' {
-            b';'
-        } else {
-            *character
-        })?;
+        if *character == b'\n' {
+            *character = b';';
+        }
     }
-    Ok(())
 }
 
 // Where the lines left no room for all bytes to be taken, the answer is too long.
 pub(crate) fn dump_bytes(dump: &mut Dump, mut given: Given, out: &mut Output) -> Answered {
     let bytes = given.rest();
-    let mut lines = [0u8; LINES_MAX];
-    let taken = dump.take(bytes, &mut lines);
+    let lines = out.spare();
+    let taken = dump.take(bytes, lines);
     if taken.used < bytes.len() {
         return Err(Failed::NoRoom);
     }
-    put_lines(lines.get(..taken.written).unwrap_or(&[]), out)?;
+    end_with_semicolons(lines.get_mut(..taken.written).unwrap_or(&mut []));
+    out.grow(taken.written)?;
     out.put_silence()?;
     Ok(())
 }
@@ -41,7 +35,9 @@ pub(crate) fn put_end(dump: &Dump, given: Given, out: &mut Output) -> Answered {
     match dump.end(&mut line) {
         Ok(written) => {
             let line = line.get(..written).unwrap_or(&[]);
-            put_lines(line.strip_suffix(b"\n").unwrap_or(line), out)?;
+            for character in line.strip_suffix(b"\n").unwrap_or(line) {
+                out.put(*character)?;
+            }
         }
         Err(refusal) => write!(out, "{}", Refused(refusal))?,
     }

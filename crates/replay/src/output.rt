@@ -1,6 +1,7 @@
 // The answers that are not written yet, and what keeps a line from an answer.
 use crate::bytes::Bytes;
 use crate::given::NoCase;
+use octets::hex;
 use std::fmt;
 use std::fmt::Write;
 
@@ -55,6 +56,20 @@ impl Output {
         self.bytes.push(byte).or(Err(fmt::Error))
     }
 
+    // A byte as two digits.
+    pub(crate) fn put_hex(&mut self, byte: u8) -> fmt::Result {
+        self.bytes.extend(&hex(byte)).or(Err(fmt::Error))
+    }
+
+    // The room that is left; no answer is longer. What a call wrote at its front is put by `grow`.
+    pub(crate) fn spare(&mut self) -> &mut [u8] {
+        self.bytes.spare()
+    }
+
+    pub(crate) fn grow(&mut self, count: usize) -> fmt::Result {
+        self.bytes.grow(count).or(Err(fmt::Error))
+    }
+
     // Parts what follows from what the answer has, if that is anything.
     pub(crate) fn put_gap(&mut self) -> fmt::Result {
         if self.answer < self.bytes.len() {
@@ -94,9 +109,6 @@ impl Output {
 
 impl Write for Output {
     fn write_str(&mut self, text: &str) -> fmt::Result {
-        for byte in text.bytes() {
-            self.put(byte)?;
-        }
-        Ok(())
+        self.bytes.extend(text.as_bytes()).or(Err(fmt::Error))
     }
 }

@@ -1,5 +1,5 @@
 // The calls that only read, letters a, s, i, I, g, G, j, k, K, h, H and J.
-use crate::addresses::AddressBytes;
+use crate::addresses::address_bytes;
 use crate::given::Given;
 use crate::output::{Answered, Output};
 use crate::shown::{Hex, Told};
@@ -22,7 +22,7 @@ struct Located {
 
 impl fmt::Display for Located {
     fn fmt<W: fmt::Write>(&self, f: &mut fmt::Formatter<W>) -> fmt::Result {
-        write!(f, "{} {}", self.used, AddressBytes(self.address))
+        write!(f, "{} {}", self.used, Hex(&address_bytes(self.address)))
     }
 }
 
@@ -70,17 +70,22 @@ impl fmt::Display for Identity {
             flags,
             device_id,
         } = self.0;
+        let revisions = [
+            min_preamble_count,
+            hart_revision,
+            device_revision,
+            software_revision,
+            hardware_revision,
+            physical_signaling,
+            flags,
+        ];
         write!(
             f,
-            "{expansion_code:02X}{expanded_device_type:04X}{min_preamble_count:02X}"
-        )?;
-        write!(
-            f,
-            "{hart_revision:02X}{device_revision:02X}{software_revision:02X}"
-        )?;
-        write!(
-            f,
-            "{hardware_revision:02X}{physical_signaling:02X}{flags:02X}{device_id:08X}"
+            "{}{}{}{}",
+            Hex(&[expansion_code]),
+            Hex(&expanded_device_type.to_be_bytes()),
+            Hex(&revisions),
+            Hex(&device_id.to_be_bytes())
         )
     }
 }
@@ -104,10 +109,18 @@ fn write_variable<W: fmt::Write>(
         bits,
         status,
     } = variable;
-    write!(
-        f,
-        "{device_var_code:02X}{classification:02X}{unit:02X}{bits:08X}{status:02X}"
-    )
+    let [first, second, third, fourth] = bits.to_be_bytes();
+    let bytes = [
+        device_var_code,
+        classification,
+        unit,
+        first,
+        second,
+        third,
+        fourth,
+        status,
+    ];
+    write!(f, "{}", Hex(&bytes))
 }
 
 impl fmt::Display for Variables {

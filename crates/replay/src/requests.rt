@@ -23,11 +23,9 @@ struct Codes(ReadDeviceVarsRequest);
 impl fmt::Display for Codes {
     fn fmt<W: fmt::Write>(&self, f: &mut fmt::Formatter<W>) -> fmt::Result {
         let count = self.0.count;
-        write!(f, "{count} ")?;
-        for code in self.0.codes.iter().take(count as usize) {
-            write!(f, "{code:02X}")?;
-        }
-        Ok(())
+        let codes = &self.0.codes;
+        let known = codes.len().min(count as usize);
+        write!(f, "{count} {}", Hex(&codes[..known]))
     }
 }
 

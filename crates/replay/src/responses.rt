@@ -47,11 +47,8 @@ fn read_variable(given: &mut Given) -> Result<DeviceVariable, NoCase> {
     })
 }
 
-// The count of a case's variables is a byte, and may be of more than there can be.
-const MOST_COUNTED: usize = 255;
-
 // Behind the groups that there are, the variables are of zeros.
-fn read_variables(given: &mut Given) -> Result<[DeviceVariable; MOST_COUNTED], NoCase> {
+fn read_variables(given: &mut Given) -> Result<[DeviceVariable; MAX_DEVICE_VARS], NoCase> {
     let mut variables = [DeviceVariable {
         device_var_code: 0,
         classification: 0,
@@ -59,8 +56,8 @@ fn read_variables(given: &mut Given) -> Result<[DeviceVariable; MOST_COUNTED], N
         value: value_of(0),
         bits: 0,
         status: 0,
-    }; MOST_COUNTED];
-    for variable in variables.iter_mut().take(MAX_DEVICE_VARS) {
+    }; MAX_DEVICE_VARS];
+    for variable in &mut variables {
         if !given.is_empty() {
             *variable = read_variable(given)?;
         }
@@ -101,7 +98,8 @@ pub(crate) fn write_response(mut given: Given, out: &mut Output) -> Answered {
                 first,
                 second,
                 extended,
-                &variables[..count as usize],
+                variables,
+                count,
                 buffer.lent(),
             )
         }

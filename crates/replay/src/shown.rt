@@ -1,7 +1,13 @@
 // How values stand in answers.
+ghost use Rattle.std.specs.Prelude.{◌≤◌, length};
+
+use octets::hex;
 use refusal::Refusal;
-use std::fmt;
 use std::fmt::Write;
+use std::{fmt, str};
+
+// So many bytes have their digits written together.
+const PIECE: usize = 32;
 
 // Bytes as pairs of hex digits.
 #[derive(Clone, Copy, Drop)]
@@ -20,12 +26,26 @@ pub(crate) struct Refused(pub Refusal);
 #[derive(Drop)]
 pub(crate) struct Told<T>(pub Result<T, Refusal>);
 
+// All digits of a piece are handed over together: a `{:02X}` for each byte takes over ten times as long.
+fn write_piece<W: fmt::Write>(piece: &[u8], f: &mut fmt::Formatter<W>) -> fmt::Result
+    requires { length piece.now ≤ PIECE }
+{
+    let mut digits = [0; 2 * PIECE];
+    for (pair, byte) in digits.chunks_exact_mut(2).zip(piece) {
+        pair.copy_from_slice(&hex(*byte));
+    }
+    // Digits are always text.
+    let text = str::from_utf8(&digits[..2 * piece.len()]).or(Err(fmt::Error))?;
+    f.write_str(text)
+}
+
 impl fmt::Display for Hex<'_> {
     fn fmt<W: fmt::Write>(&self, f: &mut fmt::Formatter<W>) -> fmt::Result {
-        for byte in self.0 {
-            write!(f, "{byte:02X}")?;
+        let (pieces, rest) = self.0.as_chunks::<PIECE>();
+        for piece in pieces {
+            write_piece(piece, f)?;
         }
-        Ok(())
+        write_piece(rest, f)
     }
 }
 

@@ -16,7 +16,7 @@ pub const READ_SIZE: usize = 65536;
 
 // A proved loop has to end, and nothing says that the input does: so the reads are counted, up to a number that no run
 // comes to and that keeps the count of the bytes within 64 bits.
-const READS: u64 = 281474976710655;
+pub const READS: u64 = 281474976710655;
 
 // The calls of one write are counted as the reads are.
 const CALLS: u64 = u64::MAX;

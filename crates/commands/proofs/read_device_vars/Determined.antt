@@ -72,5 +72,5 @@ read_request_frame κs a r s x y = λ p q. (request_known r s (p ∙ sym q), ref
 pub read_request : Determined 0 read-request-kinds.ps read-request-kinds.r read-request-reads.Post (λ κs x. tt {0})
 read_request κs a r s x y = λ p q. (request_known r s (p ∙ sym q), refl)
 
-pub encode_response : Determined 2 encode-response-kinds.ps encode-response-kinds.r encode-response-reads.Post (λ κs x. x.1.1.1.1.0.now)
+pub encode_response : Determined 1 encode-response-kinds.ps encode-response-kinds.r encode-response-reads.Post (λ κs x. x.1.1.1.1.1.0.now)
 encode_response κs a r s x y = agree reply_of written_known

@@ -1,36 +1,18 @@
 -- The variables that were asked for are written, or what was read is refused.
-use Prim.Native.Nat.{ℕ, ◌≤◌}
 use native.Mathlib.Omega.{arith}
 use mathlib.Core.Path.{◌≡◌, sym, ap, ◌∙◌}
 use mathlib.Core.List.{List, ◌∷◌, map}
 use Rattle.std.proofs.lemmas.List.{same_lists, get_or-map}
-use lib.ListN.{length, take, length-map}
-use lib.Seq.{length-take-le}
-use Rattle.std.specs.Prelude.{Result, Ok}
-use Rattle.refusal.specs.declared.Refusal.{Refusal}
-use Rattle.commands.specs.declared.read_device_vars.ReadDeviceVarsRequest.{ReadDeviceVarsRequest}
+use lib.ListN.{length-map}
 use Rattle.framing.specs.Payload.{data_of}
 use Rattle.commands.specs.declared.read_device_vars.DeviceVariable.{DeviceVariable}
-use Rattle.response.specs.Sizes.{most_variables}
 use Rattle.commands.specs.Variables.{codes_of, codes_read, request9}
 use Rattle.commands.specs.Responses.{response_data, groups_bytes, variables_responded}
 use Rattle.device.specs.Own.{own_variable}
 use Rattle.device.specs.Device.{measures}
-use Rattle.device.proofs.Spoken.{spoken_wrote, first_written}
+use Rattle.device.proofs.Spoken.{spoken_wrote, variables_written}
 use Rattle.device.proofs.Requests.{request_read, said_of, codes_few}
 use Rattle.device.proofs.tell_variables.Goals as goal
-
--- as many codes as there can be variables
-few_codes : {r : Result ReadDeviceVarsRequest Refusal} {request : ReadDeviceVarsRequest} (ds : List ℕ) → codes_of r ≡ codes_read ds → r ≡ Ok request → request.count ≤ most_variables
-few_codes ds read told = codes_few ds (ap codes_of (sym told) ∙ read)
-
-pub slice_bounds-variables-end : goal.slice_bounds-variables-end
-slice_bounds-variables-end c =
-    omega (arith, c.map-variables.ensures.items.long, few_codes (data_of c.args.frame) (request_read request9 c.args.frame c.requires.0 c.requires.1 c.read_request.ensures) c.in-Ok.is)
-
-pub slice_bounds-asked-end : goal.slice_bounds-asked-end
-slice_bounds-asked-end c =
-    sym (length-take-le _ c.map-variables.result (omega (arith, c.map-variables.ensures.items.long, few_codes (data_of c.args.frame) (request_read request9 c.args.frame c.requires.0 c.requires.1 c.read_request.ensures) c.in-Ok.is)))
 
 pub returns : goal.returns
 returns c =
@@ -41,13 +23,10 @@ returns c =
     let items = c.map-variables.ensures.items in
     let mapped : c.map-variables.result ≡ vs =
     same_lists c.map-variables.result vs (omega (arith, items.long, length-map q.codes own_variable)) (λ k d h. (items.at k 0 d (omega (arith, items.long))).2.met ∙ sym (get_or-map own_variable q.codes k 0 d (omega (arith, items.long)))) in
-    let few : q.count ≤ most_variables = few_codes (data_of c.args.frame) read c.in-Ok.is in
     let w = c.encode_response in
     spoken_wrote w.result (response_data 0 0 (0 ∷ groups_bytes vs q.count)) before c.ok.ensures.value
-    (w.ensures
-    ∙ ap (λ (us : List DeviceVariable). variables_responded 0 0 0 (take q.count us) (length (take q.count us)) before) mapped
-    ∙ ap (λ (n : ℕ). variables_responded 0 0 0 (take q.count vs) n before) (length-take-le q.count vs (omega (arith, length-map q.codes own_variable))))
-    (first_written before (omega arith) vs q.count few)
+    (w.ensures ∙ ap (λ (us : List DeviceVariable). variables_responded 0 0 0 us q.count before) mapped)
+    (variables_written before (omega arith) vs q.count (codes_few (data_of c.args.frame) (ap codes_of (sym c.in-Ok.is) ∙ read)))
     ∙ said_of codes_of measures read c.in-Ok.is
 
 pub returns-in_default : goal.returns-in_default

@@ -7,8 +7,8 @@ use lib.ListN.{length, set, take, drop, length-append, length-drop}
 use lib.Seq.{length-take-le}
 use lib.Seq.{take_all}
 use borrow.Rule.Slice.PartMut.{mid_of}
-use Rattle.octets.specs.Put.{put, put_if_fits}
-use Rattle.octets.proofs.Put.{put-nil, length-put, put-put, put_fitting, put-head}
+use Rattle.octets.specs.Put.{put}
+use Rattle.octets.proofs.Put.{put-nil, put-put, put-head}
 use Rattle.types.specs.Address.{address_length, head_room, is_long, address_bytes, read_address}
 use Rattle.types.proofs.Addresses.{address_length_le, length-address, address_taken, address_first, long_read}
 use Rattle.line.specs.machine.Step.{opening_in}
@@ -19,15 +19,14 @@ use Rattle.host.specs.Record.{frame_record}
 use Rattle.host.proofs.records.write_frame.Goals as goal
 
 -- first byte, address, command and count, each stored behind the other, and then the data, copied
-record_made : (first command count : ℕ) (ab ds l : List ℕ) {w r es : List ℕ} (next : ℕ) → w ≡ put (set l 0 first) 1 ab → next ≡ 1 + length ab → r ≡ put_if_fits (set (set w next command) (next + 1) count) (next + 2) es → es ≡ ds
+record_made : (first command count : ℕ) (ab ds l : List ℕ) {w r es : List ℕ} (next : ℕ) → w ≡ put (set l 0 first) 1 ab → next ≡ 1 + length ab → r ≡ put (set (set w next command) (next + 1) count) (next + 2) es → es ≡ ds
     → next + 2 + length ds ≤ length l → r ≡ put l 0 (first ∷ (ab ++ (command ∷ count ∷ ds)))
 record_made first command count ab ds l {w} {r} {es} next ew en er ed h =
     let front = first ∷ (ab ++ (command ∷ count ∷ [])) in
     let size : length front ≡ next + 2 = omega (arith, length-append ab (command ∷ count ∷ [])) in
     let stored : set (set w next command) (next + 1) count ≡ put l 0 front = put-head l [] 0 first ab next command count (sym (put-nil l 0)) refl ew en (omega arith) in
     er
-    ∙ ap₂ (λ (q ds : List ℕ). put_if_fits q (next + 2) ds) stored ed
-    ∙ put_fitting (put l 0 front) (next + 2) ds (omega (arith, length-put l 0 front (omega arith)))
+    ∙ ap₂ (λ (q ds : List ℕ). put q (next + 2) ds) stored ed
     ∙ put-put l 0 front ds (next + 2) (omega arith) (omega arith)
     ∙ ap (put l 0) (append_assoc (first ∷ ab) (command ∷ count ∷ []) ds)
 
@@ -52,8 +51,8 @@ returns c =
     let next = 1 + c.address_length.result in
     let written : next ≡ 1 + length ab = omega (arith, c.address_length.ensures, length-address c.from_bytes-address.result, ap address_length long) in
     let fits : next + 2 + length ds ≤ length l = omega (arith, counted, c.address_length.ensures, address_length_le a.completed.head.is_long) in
-    let laid = record_made first a.completed.command a.completed.length ab ds l next c.write_address.ensures written c.copy_into.ensures (ap (λ (k : ℕ). take k behind) all) fits in
+    let laid = record_made first a.completed.command a.completed.length ab ds l next c.write_address.ensures written c.write_data.ensures (ap (λ (k : ℕ). take k behind) all) fits in
     let same : first ∷ (ab ++ (a.completed.command ∷ a.completed.length ∷ ds)) ≡ frame_record wire = rw (c.frame_first.ensures, c.opening.ensures, address, counted) in
-    let made : (next + 2 + a.completed.length ≡ length (frame_record wire)) × (c.copy_into.new.dst ≡ put l 0 (frame_record wire)) =
+    let made : (next + 2 + a.completed.length ≡ length (frame_record wire)) × (c.write_data.new.room ≡ put l 0 (frame_record wire)) =
     (omega (arith, ap length same, length-append ab (a.completed.command ∷ a.completed.length ∷ ds), counted, written), laid ∙ ap (put l 0) same) in
     rw held at made
