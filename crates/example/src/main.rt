@@ -91,7 +91,6 @@ fn listen(rt: &impl Print, line: &[u8]) {
     let mut decoder = Decoder::new();
     for byte in line {
         let fed = decoder.feed(*byte);
-        decoder = fed.next;
         match fed.heard {
             Ok(None) => {}
             Ok(Some(frame)) => tell_frame(rt, frame),
@@ -99,6 +98,8 @@ fn listen(rt: &impl Print, line: &[u8]) {
                 let _ = println!(rt; "line:{}", Refused(refusal));
             }
         }
+        // Behind the match: in front of it what was heard is copied once more.
+        decoder = fed.next;
     }
 }
 
